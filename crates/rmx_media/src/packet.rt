@@ -1,0 +1,69 @@
+// Coded packets.
+ghost use Rattle.std.specs.Prelude.{◌≡◌, IfOk};
+
+use crate::{Config, NoMemory};
+use bytes::Bytes;
+
+/// How a payload is laid out.
+#[derive(Clone, Copy, Debug, PartialEq, Eq)]
+pub enum Form {
+    /// AVC units behind length fields, or bare AAC.
+    Native,
+    /// AVC units behind start codes (ISO/IEC 14496-10, Annex B).
+    AnnexB,
+    /// An AAC frame behind its ADTS head.
+    Adts,
+}
+
+/// The formats of outputs.
+#[derive(Clone, Copy, Debug, PartialEq, Eq)]
+pub enum Format {
+    Flv,
+    Adts,
+    Mpegts,
+    Segment,
+}
+
+/// One coded frame. Times are milliseconds.
+#[derive(Drop)]
+pub struct Packet {
+    /// The number of its stream.
+    pub stream: u32,
+    /// When it is decoded.
+    pub dts: i64,
+    /// When it is shown.
+    pub pts: i64,
+    /// Whether decoding can begin here.
+    pub key: bool,
+    pub form: Form,
+    pub payload: Bytes,
+    /// The configuration that is in force for it.
+    pub config: Config,
+    /// How many configurations of its stream came into force before that one.
+    pub version: u64,
+}
+
+impl Packet {
+    /// An equal packet, which shares payload and configuration.
+    pub fn copy(&self) -> Result<Packet, NoMemory>
+        ensures { IfOk result (λ p. p ≡ self.now) }
+    {
+        let config = match self.config.copy() {
+            Ok(config) => config,
+            Err(_) => return Err(NoMemory),
+        };
+        match self.payload.clone() {
+            Ok(payload) => Ok(Packet {
+                stream: self.stream,
+                dts: self.dts,
+                pts: self.pts,
+                key: self.key,
+                form: self.form,
+                payload,
+                config,
+                version: self.version,
+            }),
+            Err(_) => Err(NoMemory),
+        }
+    }
+}
