@@ -71,7 +71,7 @@ equal_lowered f s t p e h = record { all = equal_all f s t p e h.all; low = h.lo
 -- the payload, where configuration and form are known
 payload_is : (f : Format) (s : MuxStreams) (p : Packet) (c : Config) (g : Form) → p.config ≡ c → p.form ≡ g → FitsButDts f s p → IsPayload c g p.payload
 payload_is f s p c g e k h =
-    subst (λ (d : Config). IsPayload d form p.payload) e (subst (λ (x : Form). IsPayload p.config x p.payload) k h.payload)
+    subst (λ (d : Config). IsPayload d g p.payload) e (subst (λ (x : Form). IsPayload p.config x p.payload) k h.payload)
 
 pub native_avc : (f : Format) (s : MuxStreams) (p : Packet) (c : AvcConfig) → p.config ≡ Avc c → p.form ≡ form.Native → FitsButDts f s p
     → is_valid c.length_size p.payload ≡ true
