@@ -1,0 +1,12 @@
+pub mod Slots
+pub mod Rooms
+pub mod Tales
+pub mod Keeps
+pub mod Light
+pub mod Refusals
+pub mod Moves
+pub mod Known
+pub mod Ties
+pub mod Waits
+pub mod Refused
+pub mod Crosses

@@ -1,0 +1,9 @@
+pub mod Past
+pub mod Sight
+pub mod Ring
+pub mod Sides
+pub mod Ends
+pub mod Follows
+pub mod Tied
+pub mod Total
+pub mod Told
