@@ -1,8 +1,8 @@
 -- What stands at the front, past the size field.
-use Rattle.std.proofs.Common.{◌≡◌, ℕ, ◌+◌, ◌-◌, ◌≤◌, false, List, length, take, drop, arith, ap, ◌∙◌, sym, refl, subst, length-drop, nat_lt}
+use Rattle.std.proofs.Common.{◌≡◌, ℕ, ◌+◌, ◌-◌, ◌≤◌, false, List, length, take, drop, arith, ap, ◌∙◌, sym, refl, subst, length-drop, nat_lt, ◌<◌}
 use Rattle.std.specs.Prelude.{◌==◌, ℤ}
 use Rattle.std.proofs.lemmas.Bool.{le-ltb}
-use Rattle.std.proofs.lemmas.List.{drop-drop, take_rest}
+use Rattle.std.proofs.lemmas.List.{drop-drop, take_rest, length-take-le}
 use Rattle.flv_tags.specs.declared.tag.Tag.{Tag}
 use Rattle.flv_tags.specs.declared.front.TagHead.{TagHead}
 use Rattle.flv_tags.specs.declared.front.Ahead.{Ahead}
@@ -24,8 +24,9 @@ behind ahead.Nothing text h e = past_size text h ∙ e
 behind ahead.Part text h e = past_size text h ∙ e
 behind (ahead.Whole head) text h e =
     let n : 4 + (11 + head.size) ≡ 15 + head.size = omega arith in (
-      omega (arith, e.0, length-drop 4 text),
-      past_size text h ∙ e.1
+      e.0,
+      omega (arith, e.1, length-drop 4 text),
+      past_size text h ∙ e.2
           ∙ one_same head _ _ _ _ (ap (take head.size) (drop-drop 11 4 text)) (drop-drop (11 + head.size) 4 text ∙ ap (λ (k : ℕ). drop k text) n),
     )
 
@@ -40,3 +41,10 @@ taken head tag text rest e p q = e ∙ sym (same tag _ rest _ p q)
   where
     same : (a b : Tag) (x y : List ℕ) → a ≡ b → x ≡ y → One a x ≡ One b y
     same a b x y p q = rw (p, q) refl
+
+-- a body is as long as its head says
+pub small_body : (head : TagHead) (tag : Tag) (text : List ℕ) → head.size < 16777216 → 15 + head.size ≤ length text → tag ≡ with_body head (take head.size (drop 15 text)) → length tag.body < 16777216
+small_body head tag text s h e =
+    let b : length tag.body ≡ length (take head.size (drop 15 text)) = ap (λ (t : Tag). length t.body) e in
+    let l : length (take head.size (drop 15 text)) ≡ head.size = length-take-le head.size (drop 15 text) (omega (arith, length-drop 15 text)) in
+    omega arith

@@ -75,8 +75,8 @@ left_end s h k f e = left_front s Nothing h k f e
 pub left_part : (s : ReaderState) → s.past_head ≡ true → s.skip ≡ 0 → s.fault ≡ None → front_of s.text ≡ Part → reading_left s ≡ only (Some CutTag)
 left_part s h k f e = left_front s Part h k f e
 
-pub step_one : (s : ReaderState) (tag : Tag) (rest : List ℕ) → s.past_head ≡ true → s.skip ≡ 0 → s.fault ≡ None → front_of s.text ≡ One tag rest → ReadsTag tag s (record s { text = rest })
-step_one s tag rest h k f e = record {
+pub step_one : (s : ReaderState) (tag : Tag) (rest : List ℕ) → length tag.body < 16777216 → s.past_head ≡ true → s.skip ≡ 0 → s.fault ≡ None → front_of s.text ≡ One tag rest → ReadsTag tag s (record s { text = rest })
+step_one s tag rest small h k f e = record {
   reading = λ more.
       reading_at_size s more h k f ∙ reading_of_tags-step (s.text ++ more)
       ∙ ap (λ (g : Front). reading_by g reading_of_tags) (front_of_more s.text more tag rest e)
@@ -84,6 +84,7 @@ step_one s tag rest h k f e = record {
   ended = refl;
   fault = f;
   head = h;
+  small = small;
 }
 
 -- the faults at the head
@@ -141,7 +142,7 @@ faults_after fault old mid new s h = record {
 
 -- a step of what is the same, where the head was passed on the way
 pub steps_after : (r : Result TagStep TagFault) (old mid new : ReaderState) → IsSame old mid → mid.past_head ≡ true → mid.fault ≡ None → Steps r mid new → Steps r old new
-steps_after (Ok (Answered tag)) old mid new s p f h = record { reading = λ more. sym (s.reading more) ∙ h.reading more; ended = h.ended ∙ s.ended; fault = h.fault; head = h.head }
+steps_after (Ok (Answered tag)) old mid new s p f h = record { reading = λ more. sym (s.reading more) ∙ h.reading more; ended = h.ended ∙ s.ended; fault = h.fault; head = h.head; small = h.small }
 steps_after (Ok NeedMore) old mid new s p f h = (sym s.ended ∙ h.0, join_same old mid new s h.1, ap (λ (r : Reading). r.tags) (sym (s.reading [])) ∙ h.2, inr (by h.3))
   where
     by : IsShort mid ⊎ (((reading_left mid).verdict ≡ None) ⊎ ((reading_left mid).verdict ≡ Some CutTag)) → ((reading_left old).verdict ≡ None) ⊎ ((reading_left old).verdict ≡ Some CutTag)

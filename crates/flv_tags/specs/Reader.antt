@@ -50,6 +50,7 @@ pub record ReadsTag (tag : Tag) (old new : ReaderState) : Type 0 where
   pub ended : new.ended ≡ old.ended
   pub fault : new.fault ≡ None
   pub head : new.past_head ≡ true
+  pub small : length tag.body < 16777216
 
 -- the reading of what is left has no tag and this verdict, and so has that of whatever comes where the end wasn't told
 pub record Faults (fault : TagFault) (old new : ReaderState) : Type 0 where
@@ -98,6 +99,12 @@ Answers (Err NoMemory) fed tags ended new = HasRead fed tags new
 Answers (Err NotFlv) fed tags ended new = HasRead fed tags new × (reading_of fed ≡ record { tags = tags; verdict = Some NotFlv }) × (ended ≡ false → 9 ≤ length fed)
 Answers (Err BadOffset) fed tags ended new = HasRead fed tags new × (reading_of fed ≡ record { tags = tags; verdict = Some BadOffset })
 Answers (Err CutTag) fed tags ended new = HasRead fed tags new × (ended ≡ true) × (reading_of fed ≡ record { tags = tags; verdict = Some CutTag })
+
+-- a body is as long as three bytes can say
+abbrev pub HasSmallBody : TagStep → Type 0
+HasSmallBody (Answered tag) = length tag.body < 16777216
+HasSmallBody NeedMore = Unit {0}
+HasSmallBody End = Unit {0}
 
 abbrev pub is_tag : TagStep → Bool
 is_tag (Answered tag) = true

@@ -2,7 +2,7 @@
 ghost use Rattle.std.specs.Prelude.{◌≡◌, ◌++◌, ℕ, List, IfOk, ◌≤◌, ◌<◌, ◌+◌, [], ◌∷◌, ◌++◌, true, false, Some, Err, None, ◌⊎◌, length, take, drop, OnOk, OnErr, IfOk};
 ghost use Rattle.flv_tags.specs.declared.tag.Tag.{Tag};
 ghost use Rattle.flv_tags.specs.declared.tag.TagFault.{TagFault};
-ghost use Rattle.flv_tags.specs.Reader.{Steps, Answers, HasRead, left_of, is_tag, reading_left};
+ghost use Rattle.flv_tags.specs.Reader.{Steps, Answers, HasRead, left_of, is_tag, HasSmallBody, reading_left};
 ghost use Rattle.flv_tags.specs.Tags.{only};
 
 use crate::front::{Ahead, look, missing, take_tag};
@@ -83,6 +83,7 @@ impl TagReader {
         ensures ended { (state_of self.new).ended ≡ (state_of self.old).ended }
         ensures again { (fault : TagFault) → (state_of self.old).fault ≡ Some fault → (result ≡ Err fault) × (state_of self.new ≡ state_of self.old) }
         ensures stays { (fault : TagFault) → result ≡ Err fault → (fault ≡ TagFault.NoMemory) ⊎ ((state_of self.new).fault ≡ Some fault) }
+        ensures small { IfOk result HasSmallBody }
         ensures left { left_of (state_of self.new) ≤ left_of (state_of self.old) }
         ensures fewer { IfOk result (λ step. is_tag step ≡ true → left_of (state_of self.new) < left_of (state_of self.old)) }
     {
