@@ -1,0 +1,4 @@
+pub mod Full
+pub mod Histories
+pub mod Sizes
+pub mod Does

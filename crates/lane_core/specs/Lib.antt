@@ -1,0 +1,4 @@
+pub mod Machine
+pub mod Laws
+pub mod Size
+pub mod Shown
