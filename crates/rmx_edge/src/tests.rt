@@ -28,6 +28,7 @@ fn a_file_is_written(rt: HostRuntime) -> Result<(), Fail> {
     assert!(rt; shelf.into_inner().last_error().is_none());
     let text = fs::read_to_string(&rt, "a.bin")?;
     assert_eq!(rt; text.as_str(), "abcde");
+    fs::remove_file(&rt, "a.bin")?;
     Ok(())
 }
 
@@ -48,6 +49,7 @@ fn a_file_is_read(rt: HostRuntime) -> Result<(), Fail> {
     let missing = inputs.open_input("c.bin");
     assert!(rt; missing.is_err());
     assert!(rt; inputs.last_error().is_some());
+    fs::remove_file(&rt, "b.bin")?;
     Ok(())
 }
 
@@ -78,6 +80,9 @@ fn what_a_run_has_open_is_safe(rt: HostRuntime) -> Result<(), Fail> {
     assert_eq!(rt; closed, Ok(()));
     let created = second.create("out.bin");
     assert_eq!(rt; created, Ok(()));
+    for name in ["in.bin", "link.bin", "out.bin"] {
+        fs::remove_file(&rt, name)?;
+    }
     Ok(())
 }
 
