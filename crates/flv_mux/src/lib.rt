@@ -9,3 +9,6 @@ mod tags;
 mod track;
 
 pub use mux::FlvMux;
+
+#[cfg(test)]
+mod tests;
