@@ -1,1 +1,4 @@
+pub mod ListLemmas
+pub mod NativeLemmas
+pub mod PiecesLemmas
 pub mod UnitsLemmas

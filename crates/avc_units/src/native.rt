@@ -16,6 +16,13 @@ pub fn unit_type(unit: &[u8]) -> u8
     unit[0] % 32
 }
 
+// The type of a unit, 0 for one without a byte.
+pub(crate) fn type_or_zero(unit: &[u8]) -> u8
+    ensures { result ≡ type_of unit.now }
+{
+    if unit.len() == 0 { 0 } else { unit[0] % 32 }
+}
+
 /// Whether a payload is nothing but units behind length fields of so many bytes, with at least one that is not empty.
 pub fn valid_units(payload: &[u8], length_size: u8) -> bool
     requires low { 1 ≤ length_size }
