@@ -12,5 +12,5 @@ pub mod print;
 
 pub use iter::Units;
 pub use list::UnitList;
-pub use native::{unit_type, units, valid_units};
-pub use pieces::{Pieces, annexb_pieces};
+pub use native::{read_again, unit_type, units, valid_units};
+pub use pieces::{Pieces, annexb_len, annexb_pieces};

@@ -2,7 +2,7 @@
 ghost use Rattle.std.specs.Prelude.{◌≡◌, ℕ, List, ◌≤◌, ◌<◌, ◌==◌, ◌++◌, ◌∷◌, [], true, length, IfOk, OnOk, OnErr};
 ghost use Rattle.rmx_media.specs.Avc.{sets_of};
 ghost use Rattle.rmx_media.specs.Config.{IsReadAvc};
-ghost use Rattle.rmx_media.specs.Units.{is_valid, units_of, type_of, annexb, native};
+ghost use Rattle.rmx_media.specs.Units.{is_valid, units_of, annexb, native, AreFilled};
 ghost use Rattle.avc_units.specs.UnitList.{shown, is_kept, kept, has_type, where_due, with_sets, begins, in_front, AreShort};
 
 use crate::filled::Filled;
@@ -38,7 +38,10 @@ impl<'a> UnitList<'a> {
     ) -> Result<UnitList<'a>, NoMemory>
         requires config { IsReadAvc config.now }
         requires valid { is_valid config.now.length_size payload.now ≡ true }
-        ensures { IfOk result (λ list. list ≡ units_of config.now.length_size payload.now) }
+        ensures units { IfOk result (λ list. list ≡ units_of config.now.length_size payload.now) }
+        // So the list can be printed again as it is.
+        ensures short { IfOk result (AreShort config.now.length_size) }
+        ensures filled { IfOk result AreFilled }
     {
         match read_units(alloc, payload, config) {
             Ok(units) => Ok(UnitList { alloc, units }),

@@ -1,7 +1,8 @@
 // Units behind length fields.
-ghost use Rattle.std.specs.Prelude.{◌≡◌, ◌≤◌, ◌<◌, true, length};
+ghost use Rattle.std.specs.Prelude.{ℕ, List, ◌≡◌, ◌≤◌, ◌<◌, true, length};
 ghost use Rattle.avc_units.specs.Units.{left_of};
-ghost use Rattle.rmx_media.specs.Units.{is_valid, type_of, units_of};
+ghost use Rattle.avc_units.specs.UnitList.{AreShort};
+ghost use Rattle.rmx_media.specs.Units.{is_valid, type_of, units_of, native, AreFilled};
 
 use crate::Units;
 use crate::front::front_unit;
@@ -48,7 +49,15 @@ pub fn units(payload: &[u8], length_size: u8) -> Units<'_>
     requires low { 1 ≤ length_size }
     requires high { length_size ≤ 4 }
     requires valid { is_valid length_size payload.now ≡ true }
-    ensures { left_of result ≡ units_of length_size payload.now }
+    ensures units { left_of result ≡ units_of length_size payload.now }
+    ensures filled { AreFilled (left_of result) }
 {
     Units::of(payload, length_size)
+}
+
+/// Units that were printed behind length fields are read again, and what was printed is valid.
+pub fn read_again()
+    ensures { (width : ℕ) (units : List (List ℕ)) → 1 ≤ width → width ≤ 4 → AreShort width units → AreFilled units →
+        (units_of width (native width units) ≡ units) × (0 < length units → is_valid width (native width units) ≡ true) }
+{
 }

@@ -1,5 +1,6 @@
 // The Annex B form of a payload, in pieces.
 ghost use Rattle.std.specs.Prelude.{◌≡◌, ◌≤◌, true, length};
+ghost use Rattle.std.specs.List.{concat};
 ghost use Rattle.rmx_media.specs.Avc.{sets_of};
 ghost use Rattle.rmx_media.specs.Config.{IsReadAvc};
 ghost use Rattle.rmx_media.specs.Units.{is_valid, units_of, annexb};
@@ -24,12 +25,28 @@ pub struct Pieces<'a> {
 pub fn annexb_pieces<'a>(payload: &'a [u8], config: &'a AvcConfig) -> Pieces<'a>
     requires config { IsReadAvc config.now }
     requires valid { is_valid config.now.length_size payload.now ≡ true }
-    ensures { left_of result ≡ pieces_of (with_sets (sets_of config.now) (units_of config.now.length_size payload.now)) }
+    ensures pieces { left_of result ≡ pieces_of (with_sets (sets_of config.now) (units_of config.now.length_size payload.now)) }
+    ensures whole { concat (left_of result) ≡ annexb (with_sets (sets_of config.now) (units_of config.now.length_size payload.now)) }
 {
     Pieces {
         unit: &[],
         placed: Placed::of(payload, config),
     }
+}
+
+/// How many bytes the Annex B form of a payload has, with the sets in it.
+pub fn annexb_len(payload: &[u8], config: &AvcConfig) -> u64
+    requires config { IsReadAvc config.now }
+    requires valid { is_valid config.now.length_size payload.now ≡ true }
+    requires small { length payload.now ≤ 4294967295 }
+    ensures { result ≡ length (annexb (with_sets (sets_of config.now) (units_of config.now.length_size payload.now))) }
+{
+    let mut left = Placed::of(payload, config);
+    let mut len = 0u64;
+    while let Some(unit) = left.take_unit() {
+        len += 4 + unit.len() as u64;
+    }
+    len
 }
 
 impl<'a> Iterator for Pieces<'a> {

@@ -26,6 +26,6 @@ pub returns : goal.returns
 unfolding with_sets
 returns c =
     due_begin c.has_parameters.result (sets_left c.of.result) (units_left c.units.result)
-    ∙ ap (λ (b : Bool). where_due (not b) (sets_left c.of.result) (units_left c.units.result)) (c.has_parameters.ensures ∙ ap (has_type 7) c.units-2.ensures)
+    ∙ ap (λ (b : Bool). where_due (not b) (sets_left c.of.result) (units_left c.units.result)) (c.has_parameters.ensures ∙ ap (has_type 7) c.units-2.ensures.units)
     ∙ ap (λ (s : List (List ℕ)). where_due (not (has_type 7 (units_of c.args.config.now.length_size c.args.payload.now))) s (units_left c.units.result)) c.of.ensures
-    ∙ ap (λ (u : List (List ℕ)). where_due (not (has_type 7 (units_of c.args.config.now.length_size c.args.payload.now))) (sets_of c.args.config.now) u) c.units.ensures
+    ∙ ap (λ (u : List (List ℕ)). where_due (not (has_type 7 (units_of c.args.config.now.length_size c.args.payload.now))) (sets_of c.args.config.now) u) c.units.ensures.units
