@@ -67,12 +67,12 @@ short_by zero width (x ∷ xs) w h = tt
 short_by (suc steps) width (x ∷ xs) w h =
     let bytes : List ℕ = x ∷ xs in
     short_with (nat_lt (length bytes) (width + size_in width bytes)) width (take (size_in width bytes) (drop width bytes))
-        (parts_by steps width (drop (width + size_in width bytes) bytes))
-        (short_by steps width (drop (width + size_in width bytes) bytes) w (drop_bytes (width + size_in width bytes) bytes h))
-        (λ cut.
-            let long : width + size_in width bytes ≤ length bytes = not_short (length bytes) (width + size_in width bytes) cut in
-            let fits : size_in width bytes < 256 ^ width = small width bytes w (omega arith) h in
-            omega (arith, length-take (size_in width bytes) (drop width bytes)))
+    (parts_by steps width (drop (width + size_in width bytes) bytes))
+    (short_by steps width (drop (width + size_in width bytes) bytes) w (drop_bytes (width + size_in width bytes) bytes h))
+    (λ cut.
+    let long : width + size_in width bytes ≤ length bytes = not_short (length bytes) (width + size_in width bytes) cut in
+    let fits : size_in width bytes < 256 ^ width = small width bytes w (omega arith) h in
+    omega (arith, length-take (size_in width bytes) (drop width bytes)))
 
 -- a part of short units is short
 pub filter_short : (width : ℕ) (parts : List (List ℕ)) (test : List ℕ → Bool) → AreShort width parts → AreShort width (filter test parts)

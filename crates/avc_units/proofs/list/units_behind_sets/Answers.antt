@@ -10,7 +10,7 @@ returns-then-begins_with c =
     c.in_ok-push_units.ensures
     ∙ ap (λ (us : List (List ℕ)). us ++ shown c.args.units.now) (ap shown c.new-list.ensures.items)
     ∙ ap (λ (b : Bool). if b then shown c.args.units.now else sets_of c.args.config.now ++ shown c.args.units.now)
-        (sym c.if-begins_with.true ∙ c.begins_with.ensures)
+    (sym c.if-begins_with.true ∙ c.begins_with.ensures)
 
 pub returns : goal.returns
 unfolding in_front
@@ -18,4 +18,4 @@ returns c =
     c.in_ok-push_units-2.ensures
     ∙ ap (λ (us : List (List ℕ)). us ++ shown c.args.units.now) (c.in_ok-push_sets.ensures ∙ ap (λ (us : List (List ℕ)). us ++ sets_of c.args.config.now) (ap shown c.new-list.ensures.items))
     ∙ ap (λ (b : Bool). if b then shown c.args.units.now else sets_of c.args.config.now ++ shown c.args.units.now)
-        (sym c.if-begins_with.false ∙ c.begins_with.ensures)
+    (sym c.if-begins_with.false ∙ c.begins_with.ensures)
