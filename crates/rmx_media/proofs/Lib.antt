@@ -1,1 +1,4 @@
+pub mod AvcLemmas
 pub mod FitsLemmas
+pub mod SetsLemmas
+pub mod TimeLemmas
