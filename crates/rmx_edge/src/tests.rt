@@ -11,7 +11,7 @@ use std::test::Fail;
 fn a_file_is_written_and_read(rt: HostRuntime) -> Result<(), Fail> {
     let mut claims = claims(rt.alloc(), 2)?;
     let claim = claims.pop().ok_or("a claim")?;
-    let mut shelf = DirShelf::new(rt.alloc(), rt.clone()?, claim);
+    let mut shelf = Counted::new(DirShelf::new(rt.alloc(), rt.clone()?, claim));
     let created = shelf.create("a.bin");
     assert_eq!(rt; created, Ok(()));
     let written = shelf.write(b"abc");
@@ -24,7 +24,8 @@ fn a_file_is_written_and_read(rt: HostRuntime) -> Result<(), Fail> {
     assert_eq!(rt; written, Ok(()));
     let closed = shelf.close();
     assert_eq!(rt; closed, Ok(()));
-    assert!(rt; shelf.last_error().is_none());
+    assert_eq!(rt; shelf.bytes(), 5);
+    assert!(rt; shelf.into_inner().last_error().is_none());
     let claim = claims.pop().ok_or("a claim")?;
     let mut inputs = FileInputs::new(rt.clone()?, claim);
     let opened = inputs.open_input("a.bin");

@@ -1,0 +1,5 @@
+pub mod Ends
+pub mod Fitting
+pub mod History
+pub mod Pair
+pub mod Stamps

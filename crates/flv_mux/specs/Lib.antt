@@ -1,0 +1,3 @@
+pub mod Flv
+pub mod FlvMux
+pub mod Packets
