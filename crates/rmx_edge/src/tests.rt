@@ -1,5 +1,8 @@
 // The objects over the real outside.
-use crate::{DirShelf, FileInputs, Inputs, Shelf, ShelfFault, Sink, StdSink, claims};
+use crate::{
+    Counted, DirShelf, FailAt, FileInputs, Inputs, MemInputs, MemShelf, MemSink, Shelf, ShelfFault,
+    Sink, StdSink, claims, write_three,
+};
 use std::fs;
 use std::os::unix::fs::symlink;
 use std::test::Fail;
@@ -74,5 +77,77 @@ fn a_report_is_printed(rt: HostRuntime) -> Result<(), Fail> {
     let put = sink.write(b"done\n");
     assert_eq!(rt; put, Ok(()));
     assert!(rt; sink.last_error().is_none());
+    Ok(())
+}
+
+#[test]
+fn a_shelf_in_memory_fails_where_it_is_told(rt: HostRuntime) -> Result<(), Fail> {
+    let fails = [FailAt { call: 3, keep: 2 }, FailAt { call: 5, keep: 0 }].to_vec(rt.alloc())?;
+    let mut shelf = Counted::new(MemShelf::failing(rt.alloc(), fails));
+    let created = shelf.create("a");
+    assert_eq!(rt; created, Ok(()));
+    let written = write_three(&mut shelf, b"ab", b"", b"c");
+    assert_eq!(rt; written, Ok(()));
+    let flushed = shelf.flush();
+    assert_eq!(rt; flushed, Ok(()));
+    let refused = shelf.write(b"xyz");
+    assert_eq!(rt; refused, Err(ShelfFault::Failed));
+    let created = shelf.create("b");
+    assert_eq!(rt; created, Ok(()));
+    let refused = shelf.close();
+    assert_eq!(rt; refused, Err(ShelfFault::Failed));
+    assert_eq!(rt;
+        (shelf.bytes(), shelf.fault_count(), shelf.want_count()),
+        (3, 2, 0)
+    );
+    let shelf = shelf.into_inner();
+    assert_eq!(rt; shelf.take_count(), 2);
+    assert_eq!(rt; shelf.take_name(0), "a");
+    assert_eq!(rt; shelf.take_bytes(0), b"abcxy".as_slice());
+    assert!(rt; !shelf.take_closed(0));
+    Ok(())
+}
+
+#[test]
+fn a_shelf_in_memory_closes_or_is_dead(rt: HostRuntime) -> Result<(), Fail> {
+    let mut shelf = MemShelf::new(rt.alloc());
+    let created = shelf.create("a");
+    assert_eq!(rt; created, Ok(()));
+    let closed = shelf.close();
+    assert_eq!(rt; closed, Ok(()));
+    assert_eq!(rt; shelf.take_count(), 1);
+    assert!(rt; shelf.take_closed(0));
+    let mut dead = MemShelf::dead(rt.alloc());
+    let refused = dead.create("a");
+    assert_eq!(rt; refused, Err(ShelfFault::Failed));
+    Ok(())
+}
+
+#[test]
+fn inputs_and_a_sink_in_memory(rt: HostRuntime) -> Result<(), Fail> {
+    let file = (
+        String::from_str(rt.alloc(), "in")?,
+        b"abcde".to_vec(rt.alloc())?,
+    );
+    let files = vec![in rt.alloc(); file]?;
+    let mut inputs = MemInputs::new(files, [3].to_vec(rt.alloc())?, 3);
+    assert_eq!(rt; inputs.left(), 0);
+    let opened = inputs.open_input("in");
+    assert_eq!(rt; opened, Ok(()));
+    let mut buf = [0u8; 4];
+    let count = inputs.read(&mut buf);
+    assert_eq!(rt; count, Ok(3));
+    assert_eq!(rt; inputs.left(), 2);
+    let count = inputs.read(&mut buf);
+    assert_eq!(rt; count, Ok(2));
+    assert_eq!(rt; &buf[..2], b"de".as_slice());
+    let failed = inputs.read(&mut buf);
+    assert!(rt; failed.is_err());
+    let mut sink = MemSink::new([1].to_vec(rt.alloc())?);
+    let put = sink.write(b"one");
+    assert_eq!(rt; put, Ok(()));
+    let failed = sink.write(b"two");
+    assert!(rt; failed.is_err());
+    assert_eq!(rt; sink.bytes(), b"one".as_slice());
     Ok(())
 }
