@@ -9,10 +9,10 @@ use Rattle.rmx_media.specs.Units.{is_filled, size_in, parts_by, parts_of, units_
 not_short : (m n : ℕ) → nat_lt m n ≡ false → n ≤ m
 not_short m n h = grind (arith, nat_tests)
 
-is_short : (m n : ℕ) → m < n → nat_lt m n ≡ true
+pub is_short : (m n : ℕ) → m < n → nat_lt m n ≡ true
 is_short m n h = grind (arith, nat_tests)
 
-is_long : (m n : ℕ) → n ≤ m → nat_lt m n ≡ false
+pub is_long : (m n : ℕ) → n ≤ m → nat_lt m n ≡ false
 is_long m n h = grind (arith, nat_tests)
 
 -- the first part, and those after it

@@ -1,0 +1,12 @@
+use Rattle.std.proofs.Common.{◌≡◌, ℕ, ◌+◌, ◌<◌, ◌++◌, Bool, true, false, List, [], ◌∷◌, length, drop, get_or, sym, ap, ◌∙◌, arith, subst, Result, cond}
+use Rattle.std.specs.Prelude.{not}
+use Rattle.rmx_media.specs.Avc.{sets_of}
+use Rattle.avc_units.specs.UnitList.{shown, where_due, with_sets, has_type}
+use Rattle.avc_units.proofs.ListLemmas.{shown_drop, drop_all, end}
+use Rattle.avc_units.proofs.list.units_with_sets.Goals as goal
+
+pub loop-unit-init : goal.loop-unit-init
+unfolding with_sets
+loop-unit-init c =
+    ap (λ (us : List (List ℕ)). us ++ where_due (not c.has_unit_of-due.result) (sets_of c.args.config.now) (shown c.args.units.now)) (ap shown c.new-list.ensures.items)
+    ∙ ap (λ (b : Bool). where_due (not b) (sets_of c.args.config.now) (shown c.args.units.now)) c.has_unit_of-due.ensures
