@@ -1,3 +1,4 @@
+pub mod AacLemmas
 pub mod AvcLemmas
 pub mod FitsLemmas
 pub mod SetsLemmas

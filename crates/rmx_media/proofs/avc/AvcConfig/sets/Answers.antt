@@ -19,7 +19,7 @@ of-requires c =
     let w : Whole c.args.self.now.raw = whole c.args.self.now.raw (read c.args.self.now c.requires.read).sets in
     ap (λ (x : List ℕ). is_some (sets_left false (slice_index c.split_at.result.0.now 5 % 32) x)) (c.split_at.ensures.back ∙ ap (drop 6) c.as_slice.ensures)
     ∙ ap (λ (n : ℕ). is_some (sets_left false (n % 32) (drop 6 c.args.self.now.raw)))
-        (sixth c.args.self.now.raw c.as_slice.result.now c.split_at.result.0.now c.as_slice.ensures c.split_at.ensures.front)
+    (sixth c.args.self.now.raw c.as_slice.result.now c.split_at.result.0.now c.as_slice.ensures c.split_at.ensures.front)
     ∙ w.sets
 
 pub returns : goal.returns
@@ -29,5 +29,5 @@ returns c =
     c.of.ensures
     ∙ ap (λ (x : List ℕ). some_sets (sets_left false (slice_index c.split_at.result.0.now 5 % 32) x)) (c.split_at.ensures.back ∙ ap (drop 6) c.as_slice.ensures)
     ∙ ap (λ (n : ℕ). some_sets (sets_left false (n % 32) (drop 6 c.args.self.now.raw)))
-        (sixth c.args.self.now.raw c.as_slice.result.now c.split_at.result.0.now c.as_slice.ensures c.split_at.ensures.front)
+    (sixth c.args.self.now.raw c.as_slice.result.now c.split_at.result.0.now c.as_slice.ensures c.split_at.ensures.front)
     ∙ ap some_sets (sym w.same)
