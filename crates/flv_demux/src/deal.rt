@@ -1,6 +1,6 @@
 // What tags mean, and what comes of them.
 use bytes::Bytes;
-use rmx_media::{Config, Kind, Packet};
+use rmx_media::{Config, Kind, Packet, StreamInfo};
 
 /// Why a tag is passed over.
 #[derive(Clone, Copy, Debug, PartialEq, Eq)]
@@ -86,4 +86,21 @@ pub enum Outcome {
     Counted(Reason),
     Forces(Config),
     Gives(Kind, Packet),
+}
+
+/// What is told of the tags dealt with: whether the streams are known, and the counts.
+#[derive(Clone, Copy, Debug, PartialEq, Eq)]
+pub struct Shown {
+    pub known: bool,
+    pub tags: u64,
+    pub discards: Discards,
+}
+
+/// What is known of the streams, and of how many of the waiting tags it was found.
+#[derive(Drop)]
+pub struct Streams {
+    pub looked: usize,
+    pub probe: Probe,
+    pub known: Option<Kinds>,
+    pub infos: Vec<StreamInfo>,
 }

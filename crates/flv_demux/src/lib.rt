@@ -4,9 +4,9 @@
 mod deal;
 pub mod demuxer;
 mod desk;
-pub mod laws;
 mod meaning;
 mod probe;
+mod steps;
 
 pub use deal::Discards;
 pub use demuxer::{DemuxFault, DemuxStep, Demuxer};

@@ -1,6 +1,6 @@
 // Which streams there are.
-ghost use Rattle.std.specs.Prelude.{◌≡◌, ◌<◌, ◌+◌, ◌≤◌, IfOk, OnOk, OnErr, length, IfSome, false};
-ghost use Rattle.flv_demux.specs.Probe.{no_probe as nothing, probed, noted, is_decided as decided, kinds_of as kinds_in, infos_of as infos_in, info_list, first_of, IsSoundProbe, IsOfKind};
+ghost use Rattle.std.specs.Prelude.{◌≡◌, ◌<◌, ◌+◌, ◌++◌, ◌≤◌, IfOk, OnOk, OnErr, length, IfSome, false};
+ghost use Rattle.flv_demux.specs.Probe.{no_probe as nothing, probed, noted, is_decided as decided, kinds_of as kinds_in, infos_of as infos_in, info_list, first_of, has_stream as has_any, IsSoundProbe, IsOfKind};
 ghost use Rattle.flv_demux.specs.Meaning.{IsSound};
 
 use crate::deal::{Kinds, Meaning, Probe, Reason};
@@ -105,6 +105,12 @@ pub fn kinds_of(probe: &Probe) -> Kinds
         video: probe.video.is_some(),
         audio: probe.audio.is_some(),
     }
+}
+
+pub fn has_stream(kinds: Kinds) -> bool
+    ensures { result ≡ has_any kinds }
+{
+    kinds.video || kinds.audio
 }
 
 fn add_info(

@@ -3,5 +3,6 @@ pub mod Grow
 pub mod HeadLemmas
 pub mod More
 pub mod ReaderLemmas
+pub mod Verdicts
 pub mod Walk
 pub mod Written

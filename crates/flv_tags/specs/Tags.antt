@@ -1,5 +1,5 @@
 -- An FLV text as a whole: its tags and its verdict.
-use Rattle.std.specs.Prelude.{◌≡◌, ℕ, zero, suc, Bool, ◌&&◌, List, [], ◌∷◌, ◌++◌, length, take, drop, nat_lt, if◌then◌else◌, Option, Some, None}
+use Rattle.std.specs.Prelude.{◌≡◌, ℕ, zero, suc, Bool, ◌&&◌, List, [], ◌∷◌, ◌++◌, length, take, drop, nat_lt, if◌then◌else◌, Option, Some, None, ◌⊎◌}
 use Rattle.std.specs.Str.{bytes_eq}
 use Rattle.rmx_media.specs.Bits.{number_of}
 use Rattle.flv_tags.specs.declared.tag.Tag.{Tag}
@@ -70,3 +70,7 @@ TagsOfPrefixComeFirst = (text more : List ℕ) → Begins (text ++ more) (readin
 -- the law of steps: what stands at the front is read, and then what is behind it
 abbrev pub TagsAreReadInOrder : Type 0
 TagsAreReadInOrder = (text : List ℕ) → reading_of_tags text ≡ reading_by (front_of text) reading_of_tags
+
+-- the law of faults at the head: a text that is no FLV text, or whose tags begin inside its head, has none
+abbrev pub FaultsAtTheHeadHaveNoTags : Type 0
+FaultsAtTheHeadHaveNoTags = (fault : TagFault) (text : List ℕ) → (fault ≡ NotFlv) ⊎ (fault ≡ BadOffset) → (reading_of text).verdict ≡ Some fault → (reading_of text).tags ≡ []

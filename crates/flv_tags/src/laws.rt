@@ -1,5 +1,5 @@
 // What holds of all texts.
-ghost use Rattle.flv_tags.specs.Tags.{TagsOfPrefixComeFirst, TagsAreReadInOrder};
+ghost use Rattle.flv_tags.specs.Tags.{TagsOfPrefixComeFirst, TagsAreReadInOrder, FaultsAtTheHeadHaveNoTags};
 ghost use Rattle.flv_tags.specs.Written.{HeadsAreReadBack};
 
 /// However a text goes on, its tags stay the first ones.
@@ -16,3 +16,9 @@ pub fn tags_are_read_in_order()
 pub fn heads_are_read_back()
     ensures { HeadsAreReadBack }
 {}
+
+/// A text with a fault at its head has no tags.
+pub fn faults_at_the_head_have_no_tags()
+    ensures { FaultsAtTheHeadHaveNoTags }
+{
+}
