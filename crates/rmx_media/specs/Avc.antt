@@ -1,5 +1,5 @@
 -- The configuration of an AVC stream (AVCDecoderConfigurationRecord of ISO/IEC 14496-15, 5.2.4.1), as far as it is read.
-use Rattle.std.specs.Prelude.{ℕ, zero, suc, ◌+◌, ◌-◌, ◌%◌, ◌==◌, not, nat_lt, if◌then◌else◌, List, [], ◌∷◌, ◌++◌, length, take, drop, filter, Option, None, Some, Result, Ok, Err, slice_index}
+use Rattle.std.specs.Prelude.{ℕ, zero, suc, ◌+◌, ◌%◌, ◌==◌, Bool, true, false, not, nat_lt, if◌then◌else◌, List, [], ◌∷◌, ◌++◌, length, take, drop, filter, Option, None, Some, Result, Ok, Err, slice_index}
 use Rattle.rmx_media.specs.declared.config.ConfigFault.{ConfigFault}
 use Rattle.rmx_media.specs.declared.config.ConfigFault.TheVariants.{Short, Version}
 use Rattle.rmx_media.specs.declared.avc.AvcConfig.{AvcConfig}
@@ -57,3 +57,19 @@ all_sets config = some_sets (sets_in config.raw)
 -- those that are not empty
 abbrev pub sets_of : AvcConfig → List (List ℕ)
 sets_of config = filter is_filled (all_sets config)
+
+abbrev pub rest_alone : Option Run → Option (List ℕ)
+rest_alone None = None
+rest_alone (Some run) = Some run.rest
+
+abbrev pub sets_alone : Option Run → Option (List (List ℕ))
+sets_alone None = None
+sets_alone (Some run) = Some run.sets
+
+abbrev pub left_by : Bool → Option Run → Option (List (List ℕ))
+left_by false run = sets_after run
+left_by true run = sets_alone run
+
+-- so many sets at the front of the bytes, and the picture parameter sets behind them, unless these are the picture parameter sets
+abbrev pub sets_left : Bool → ℕ → List ℕ → Option (List (List ℕ))
+sets_left last count bytes = left_by last (run_of count bytes)

@@ -1,5 +1,6 @@
 // The configuration of a stream, of either kind.
-ghost use Rattle.std.specs.Prelude.{◌≡◌, IfOk};
+ghost use Rattle.std.specs.Prelude.{◌≡◌, ◌↔◌, IsTrue, IfOk};
+ghost use Rattle.rmx_media.specs.Config.{IsSame};
 
 use crate::{AacConfig, AvcConfig, NoMemory};
 use thiserror::Error;
@@ -41,5 +42,16 @@ impl Config {
                 Err(_) => Err(NoMemory),
             },
         }
+    }
+}
+
+/// Whether both are of one kind and read from the same bytes.
+pub fn same_config(a: &Config, b: &Config) -> bool
+    ensures { IsTrue result ↔ IsSame a.now b.now }
+{
+    match (a, b) {
+        (Config::Avc(a), Config::Avc(b)) => a.raw.as_slice() == b.raw.as_slice(),
+        (Config::Aac(a), Config::Aac(b)) => a.raw.as_slice() == b.raw.as_slice(),
+        _ => false,
     }
 }

@@ -1,5 +1,6 @@
 // Coded packets.
 ghost use Rattle.std.specs.Prelude.{◌≡◌, IfOk};
+ghost use Rattle.rmx_media.specs.Packet.{is_restart as restarts};
 
 use crate::{Config, NoMemory};
 use bytes::Bytes;
@@ -65,5 +66,15 @@ impl Packet {
             }),
             Err(_) => Err(NoMemory),
         }
+    }
+}
+
+/// Whether an output may begin at this packet: a key packet of its video stream, or any packet where it has no video.
+pub fn is_restart(p: &Packet, video: Option<u32>) -> bool
+    ensures { result ≡ restarts p.now video }
+{
+    match video {
+        None => true,
+        Some(video) => p.stream == video && p.key,
     }
 }

@@ -1,0 +1,9 @@
+pub mod Demuxing
+pub mod Longer
+pub mod Order
+pub mod Probing
+pub mod Reading
+pub mod Sound
+pub mod Stepping
+pub mod Telling
+pub mod Tops

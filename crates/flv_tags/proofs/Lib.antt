@@ -1,0 +1,8 @@
+pub mod AheadLemmas
+pub mod Grow
+pub mod HeadLemmas
+pub mod More
+pub mod ReaderLemmas
+pub mod Verdicts
+pub mod Walk
+pub mod Written

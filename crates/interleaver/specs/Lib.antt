@@ -1,0 +1,4 @@
+pub mod Interleave
+pub mod Queues
+pub mod Sorting
+pub mod View

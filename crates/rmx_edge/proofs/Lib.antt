@@ -1,0 +1,11 @@
+pub mod ChainLemmas
+pub mod FileLemmas
+pub mod FileRuns
+pub mod FileTakes
+pub mod Flush
+pub mod HistoryRuns
+pub mod Known
+pub mod PieceLemmas
+pub mod Run
+pub mod Takes
+pub mod Writing

@@ -1,0 +1,43 @@
+-- What clauses see of a shelf in memory.
+use Rattle.std.specs.Prelude.{◌≡◌, ℕ, Bool, not, ◌&&◌, ◌||◌, ◌⊎◌, Some, None, length, take, ◌==◌, List}
+use Rattle.std.specs.List.{list_any}
+use Rattle.rmx_edge.specs.declared.fail_at.FailAt.{FailAt}
+use Rattle.rmx_edge.specs.declared.mem_shelf.MemShelf.{MemShelf}
+use Rattle.rmx_edge.specs.FailAt.{keep_of}
+use Rattle.rmx_edge.specs.MemTake.{takes_of}
+use Rattle.rmx_edge.specs.Shelf.{ShelfState, ShelfTake, Write, after_call}
+
+abbrev pub state_of : MemShelf → ShelfState
+state_of s = record {
+  takes = Some (takes_of s.takes.items);
+  calls = Some s.calls;
+  accepted = None;
+  writing = s.writing;
+  faults = s.faults;
+  wants = s.wants;
+  sound = not s.dead && (length s.fails.items == 0);
+}
+
+-- its takes
+abbrev pub shown : MemShelf → List ShelfTake
+shown s = takes_of s.takes.items
+
+-- the calls that are to fail
+abbrev pub listed : MemShelf → List FailAt
+listed s = s.fails.items
+
+-- whether every call is to fail
+abbrev pub is_dead : MemShelf → Bool
+is_dead s = s.dead
+
+-- whether the next call is to fail
+abbrev pub fails_next : MemShelf → Bool
+fails_next s = s.dead || list_any (λ f. f.call == s.calls) s.fails.items
+
+-- how much the next write keeps, if it is to fail
+abbrev pub keep_next : MemShelf → ℕ
+keep_next s = keep_of s.fails.items s.calls
+
+-- a write that failed kept so much of its piece, or nothing where memory was refused
+abbrev pub KeepsFirst : ℕ → List ℕ → List ShelfTake → List ShelfTake → Type 0
+KeepsFirst count piece old new = (new ≡ after_call (Write (take count piece)) old) ⊎ (new ≡ old)
