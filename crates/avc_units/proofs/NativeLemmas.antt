@@ -1,10 +1,9 @@
 -- Units that were printed behind length fields are read again.
-use Rattle.std.proofs.Common.{◌≡◌, ℕ, zero, suc, ◌+◌, ◌-◌, ◌^◌, ◌<◌, ◌≤◌, Bool, true, false, List, [], ◌∷◌, ◌++◌, length, take, drop, refl, sym, ap, ◌∙◌, arith, Option, None, Some, append_assoc, length-append, cond, subst}
-use Rattle.std.specs.Prelude.{is_some, filter, unwrap_or, nat_lt}
+use Rattle.std.proofs.Common.{◌≡◌, ℕ, ◌+◌, ◌<◌, ◌≤◌, Bool, true, List, [], ◌∷◌, ◌++◌, length, take, drop, refl, sym, ap, ◌∙◌, arith, Option, Some, append_assoc, length-append, cond}
+use Rattle.std.specs.Prelude.{filter, unwrap_or, nat_lt}
 use Rattle.std.specs.Option.{option_map}
-use Rattle.std.proofs.lemmas.List.{length-drop}
 use Rattle.rmx_media.specs.Bits.{number_of, bytes_of}
-use Rattle.rmx_media.specs.Units.{is_filled, sized, native, size_in, parts_of, units_of, is_valid, AreFilled}
+use Rattle.rmx_media.specs.Units.{is_filled, native, size_in, parts_of, units_of, is_valid, AreFilled}
 use Rattle.rmx_media.proofs.BitsLemmas.{length-bytes_of, number_of-bytes_of}
 use Rattle.avc_units.specs.UnitList.{AreShort}
 use Rattle.avc_units.proofs.UnitsLemmas.{parts_none, parts_more, is_short}
@@ -23,21 +22,21 @@ front_back : (width : ℕ) (field unit rest : List ℕ) → 1 ≤ width → leng
 front_back width field unit rest w l n =
     let bytes : List ℕ = (field ++ unit) ++ rest in
     let long : length bytes ≡ length field + length unit + length rest =
-        length-append (field ++ unit) rest ∙ ap (λ k. k + length rest) (length-append field unit) in
+    length-append (field ++ unit) rest ∙ ap (λ k. k + length rest) (length-append field unit) in
     let front : take width bytes ≡ field =
-        ap (λ (xs : List ℕ). take width xs) (append_assoc field unit rest)
-        ∙ ap (λ k. take k (field ++ (unit ++ rest))) (sym l)
-        ∙ take_front field (unit ++ rest) in
+    ap (λ (xs : List ℕ). take width xs) (append_assoc field unit rest)
+    ∙ ap (λ k. take k (field ++ (unit ++ rest))) (sym l)
+    ∙ take_front field (unit ++ rest) in
     let size : size_in width bytes ≡ length unit = ap number_of front ∙ n in
     let back : drop width bytes ≡ unit ++ rest =
-        ap (λ (xs : List ℕ). drop width xs) (append_assoc field unit rest)
-        ∙ ap (λ k. drop k (field ++ (unit ++ rest))) (sym l)
-        ∙ drop_front field (unit ++ rest) in
+    ap (λ (xs : List ℕ). drop width xs) (append_assoc field unit rest)
+    ∙ ap (λ k. drop k (field ++ (unit ++ rest))) (sym l)
+    ∙ drop_front field (unit ++ rest) in
     let body : take (size_in width bytes) (drop width bytes) ≡ unit =
-        ap (λ k. take k (drop width bytes)) size ∙ ap (take (length unit)) back ∙ take_front unit rest in
+    ap (λ k. take k (drop width bytes)) size ∙ ap (take (length unit)) back ∙ take_front unit rest in
     let both : width + size_in width bytes ≡ length (field ++ unit) = omega (arith, size, l, length-append field unit) in
     let left : drop (width + size_in width bytes) bytes ≡ rest =
-        ap (λ k. drop k bytes) both ∙ drop_front (field ++ unit) rest in
+    ap (λ k. drop k bytes) both ∙ drop_front (field ++ unit) rest in
     parts_more width bytes w (omega (arith, long, l, w)) (omega (arith, long, l, size))
     ∙ ap (λ (u : List ℕ). option_map (λ (ps : List (List ℕ)). u ∷ ps) (parts_of width (drop (width + size_in width bytes) bytes))) body
     ∙ ap (λ (r : List ℕ). option_map (λ (ps : List (List ℕ)). unit ∷ ps) (parts_of width r)) left
@@ -47,7 +46,7 @@ unfolding native
 parts_back width [] w h s = parts_none width
 parts_back width (unit ∷ units) w h s =
     front_back width (bytes_of width (length unit)) unit (native width units) w (length-bytes_of width (length unit))
-        (number_of-bytes_of width (length unit) w h s.0)
+    (number_of-bytes_of width (length unit) w h s.0)
     ∙ ap (λ (p : Option (List (List ℕ))). option_map (λ (ps : List (List ℕ)). unit ∷ ps) p) (parts_back width units w h s.1)
 
 filter_all : (units : List (List ℕ)) → AreFilled units → filter is_filled units ≡ units

@@ -1,10 +1,9 @@
 -- The units of a payload have bytes, and their lengths fit the length fields.
-use Rattle.std.proofs.Common.{◌≡◌, ℕ, zero, suc, ◌+◌, ◌-◌, ◌*◌, ◌^◌, ◌<◌, ◌≤◌, Bool, true, false, cond, List, [], ◌∷◌, length, take, drop, get_or, refl, sym, ap, ◌∙◌, arith, Option, None, Some, subst, lit<}
+use Rattle.std.proofs.Common.{◌≡◌, ℕ, zero, suc, ◌+◌, ◌^◌, ◌<◌, ◌≤◌, Bool, true, false, cond, List, [], ◌∷◌, length, take, drop, get_or, refl, arith, Option, None, Some, lit<}
 use Rattle.std.specs.Prelude.{nat_lt, filter, unwrap_or, if◌then◌else◌}
 use Rattle.std.specs.Option.{option_map}
 use Rattle.std.proofs.lemmas.List.{length-take}
 use Rattle.std.proofs.lemmas.Bool.Decides.{nat_tests}
-use Rattle.rmx_media.specs.Bits.{number_of}
 use Rattle.rmx_media.specs.Units.{is_filled, size_in, parts_by, parts_of, units_of, AreFilled}
 use Rattle.avc_units.specs.UnitList.{AreShort}
 
@@ -67,12 +66,12 @@ short_by zero width (x ∷ xs) w h = tt
 short_by (suc steps) width (x ∷ xs) w h =
     let bytes : List ℕ = x ∷ xs in
     short_with (nat_lt (length bytes) (width + size_in width bytes)) width (take (size_in width bytes) (drop width bytes))
-        (parts_by steps width (drop (width + size_in width bytes) bytes))
-        (short_by steps width (drop (width + size_in width bytes) bytes) w (drop_bytes (width + size_in width bytes) bytes h))
-        (λ cut.
-            let long : width + size_in width bytes ≤ length bytes = not_short (length bytes) (width + size_in width bytes) cut in
-            let fits : size_in width bytes < 256 ^ width = small width bytes w (omega arith) h in
-            omega (arith, length-take (size_in width bytes) (drop width bytes)))
+    (parts_by steps width (drop (width + size_in width bytes) bytes))
+    (short_by steps width (drop (width + size_in width bytes) bytes) w (drop_bytes (width + size_in width bytes) bytes h))
+    (λ cut.
+    let long : width + size_in width bytes ≤ length bytes = not_short (length bytes) (width + size_in width bytes) cut in
+    let fits : size_in width bytes < 256 ^ width = small width bytes w (omega arith) h in
+    omega (arith, length-take (size_in width bytes) (drop width bytes)))
 
 -- a part of short units is short
 pub filter_short : (width : ℕ) (parts : List (List ℕ)) (test : List ℕ → Bool) → AreShort width parts → AreShort width (filter test parts)

@@ -1,15 +1,14 @@
 -- How long the Annex B form is.
-use Rattle.std.proofs.Common.{◌≡◌, ℕ, zero, suc, ◌+◌, ◌-◌, ◌*◌, ◌<◌, ◌≤◌, Bool, true, false, cond, List, [], ◌∷◌, ◌++◌, length, take, drop, refl, sym, ap, ◌∙◌, arith, Option, None, Some, length-append, subst}
-use Rattle.std.specs.Prelude.{nat_lt, is_some, filter, unwrap_or, not, slice_index, if◌then◌else◌, ◌==◌, ◌%◌, Result, Ok}
+use Rattle.std.proofs.Common.{◌≡◌, ℕ, zero, suc, ◌+◌, ◌-◌, ◌*◌, ◌<◌, ◌≤◌, Bool, true, false, cond, List, [], ◌∷◌, ◌++◌, length, take, drop, refl, ap, ◌∙◌, arith, Option, None, Some, length-append}
+use Rattle.std.specs.Prelude.{nat_lt, filter, unwrap_or, not, slice_index, if◌then◌else◌, ◌==◌, ◌%◌}
 use Rattle.std.specs.Option.{option_map}
 use Rattle.std.proofs.lemmas.List.{length-drop, length-take}
 use Rattle.std.proofs.lemmas.Bool.Decides.{nat_tests}
 use Rattle.rmx_media.specs.declared.avc.AvcConfig.{AvcConfig}
 use Rattle.rmx_media.specs.Avc.{Run, run_of, with_set, sets_after, with_sets as after_sets, sets_in, some_sets, all_sets, sets_of}
 use Rattle.rmx_media.specs.Bits.{number_of}
-use Rattle.rmx_media.specs.Units.{is_filled, type_of, annexb, started, size_in, parts_by, parts_of, units_of}
+use Rattle.rmx_media.specs.Units.{is_filled, type_of, annexb, size_in, parts_by, parts_of, units_of}
 use Rattle.avc_units.specs.UnitList.{has_type, before_idr, where_due, with_sets}
-use Rattle.avc_units.proofs.UnitsLemmas.{is_short, is_long}
 
 abbrev pub size : List (List ℕ) → ℕ
 size units = length (annexb units)
@@ -63,7 +62,7 @@ payload_by (suc steps) width (x ∷ xs) =
     let bytes : List ℕ = x ∷ xs in
     let rest : List ℕ = drop (width + size_in width bytes) bytes in
     payload_with (nat_lt (length bytes) (width + size_in width bytes)) (take (size_in width bytes) (drop width bytes)) (parts_by steps width rest) (length bytes) (length rest)
-        (payload_by steps width rest) (λ h. within width (size_in width bytes) bytes (not_short (length bytes) (width + size_in width bytes) h))
+    (payload_by steps width rest) (λ h. within width (size_in width bytes) bytes (not_short (length bytes) (width + size_in width bytes) h))
 
 -- the units of a payload
 pub size_units : (width : ℕ) (payload : List ℕ) → size (units_of width payload) ≤ 5 * length payload
@@ -86,7 +85,7 @@ run_by zero bytes = omega (arith, size_none)
 run_by (suc count) bytes =
     let n : ℕ = number_of (take 2 bytes) in
     run_with (nat_lt (length bytes) (2 + n)) (take n (drop 2 bytes)) (run_of count (drop (2 + n) bytes)) (length bytes) (length (drop (2 + n) bytes))
-        (run_by count (drop (2 + n) bytes)) (λ h. within 2 n bytes (not_short (length bytes) (2 + n) h))
+    (run_by count (drop (2 + n) bytes)) (λ h. within 2 n bytes (not_short (length bytes) (2 + n) h))
 
 filter-append : (xs ys : List (List ℕ)) → filter is_filled (xs ++ ys) ≡ filter is_filled xs ++ filter is_filled ys
 filter-append [] ys = refl
@@ -103,7 +102,7 @@ after_by true sets run m r h k = omega (arith, size_none)
 after_by false sets None m r h k = omega (arith, size_none)
 after_by false sets (Some run) m r h k =
     let e : size (filter is_filled (sets ++ run.sets)) ≡ size (filter is_filled sets) + size (filter is_filled run.sets) =
-        ap size (filter-append sets run.sets) ∙ size_append (filter is_filled sets) (filter is_filled run.sets) in
+    ap size (filter-append sets run.sets) ∙ size_append (filter is_filled sets) (filter is_filled run.sets) in
     omega arith
 
 after : (run : Option Run) (m : ℕ) → Bounded run m → size (filter is_filled (some_sets (sets_after run))) ≤ 5 * m
@@ -111,7 +110,7 @@ after None m h = omega (arith, size_none)
 after (Some run) m h =
     let rest : length (drop 1 run.rest) ≡ length run.rest - 1 = length-drop 1 run.rest in
     after_by (nat_lt (length run.rest) 1) run.sets (run_of (slice_index run.rest 0) (drop 1 run.rest)) m (length (drop 1 run.rest))
-        (run_by (slice_index run.rest 0) (drop 1 run.rest)) (omega arith)
+    (run_by (slice_index run.rest 0) (drop 1 run.rest)) (omega arith)
 
 sets_by : (short : Bool) (sets : Option (List (List ℕ))) (m : ℕ) → size (filter is_filled (some_sets sets)) ≤ m → size (filter is_filled (some_sets (if short then None else sets))) ≤ m
 sets_by true sets m h = omega (arith, size_none)
@@ -123,7 +122,7 @@ unfolding all_sets sets_in
 size_sets config =
     let rest : length (drop 6 config.raw) ≡ length config.raw - 6 = length-drop 6 config.raw in
     let some : size (filter is_filled (some_sets (sets_after (run_of (slice_index config.raw 5 % 32) (drop 6 config.raw))))) ≤ 5 * length (drop 6 config.raw) =
-        after (run_of (slice_index config.raw 5 % 32) (drop 6 config.raw)) (length (drop 6 config.raw)) (run_by (slice_index config.raw 5 % 32) (drop 6 config.raw)) in
+    after (run_of (slice_index config.raw 5 % 32) (drop 6 config.raw)) (length (drop 6 config.raw)) (run_by (slice_index config.raw 5 % 32) (drop 6 config.raw)) in
     sets_by (nat_lt (length config.raw) 6) (sets_after (run_of (slice_index config.raw 5 % 32) (drop 6 config.raw))) (5 * length config.raw) (omega arith)
 
 before_by : (idr : Bool) (sets units : List (List ℕ)) (unit : List ℕ) → size (before_idr sets units) ≤ size sets + size units

@@ -9,6 +9,8 @@ pub mod native;
 pub mod pieces;
 pub mod placed;
 pub mod print;
+#[cfg(test)]
+mod tests;
 
 pub use iter::Units;
 pub use list::UnitList;

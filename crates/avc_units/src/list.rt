@@ -6,8 +6,8 @@ ghost use Rattle.rmx_media.specs.Units.{is_valid, units_of, annexb, native, AreF
 ghost use Rattle.avc_units.specs.UnitList.{shown, is_kept, kept, has_type, where_due, with_sets, begins, in_front, AreShort};
 
 use crate::filled::Filled;
-use crate::print::{annexb_bytes, native_bytes};
 use crate::native::{type_or_zero, units};
+use crate::print::{annexb_bytes, native_bytes};
 use bytes::Bytes;
 use rmx_media::{AvcConfig, NoMemory};
 use std::alloc::Global;

@@ -59,5 +59,4 @@ pub fn units(payload: &[u8], length_size: u8) -> Units<'_>
 pub fn read_again()
     ensures { (width : ℕ) (units : List (List ℕ)) → 1 ≤ width → width ≤ 4 → AreShort width units → AreFilled units →
         (units_of width (native width units) ≡ units) × (0 < length units → is_valid width (native width units) ≡ true) }
-{
-}
+{}

@@ -1,5 +1,5 @@
 -- Numbers in bytes.
-use Rattle.std.proofs.Common.{◌≡◌, ℕ, zero, suc, ◌+◌, ◌*◌, ◌/◌, ◌%◌, ◌^◌, ◌<◌, ◌≤◌, List, [], ◌∷◌, length, refl, ap, arith}
+use Rattle.std.proofs.Common.{◌≡◌, ℕ, zero, suc, ◌^◌, ◌<◌, ◌≤◌, length, refl, ap, arith}
 use Rattle.rmx_media.specs.Bits.{number_of, bytes_of}
 
 pub length-bytes_of : (count n : ℕ) → length (bytes_of count n) ≡ count

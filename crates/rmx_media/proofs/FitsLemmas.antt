@@ -108,27 +108,31 @@ read_aac f s p c e h = config_is f s p (Aac c) e h
 -- audio that fits MPEG-TS fits ADTS
 pub adts_too : (s : MuxStreams) (p : Packet) → kind_of p.config ≡ Audio → Fits Mpegts s p → Fits Adts s p
 adts_too s p k h = record {
-    all = record {
-        stream = h.all.stream;
-        config = h.all.config;
-        payload = h.all.payload;
-        size = h.all.size;
-        early = h.all.early;
-        late = h.all.late;
-        suits = k };
-    low = h.low;
-    high = h.high }
+  all = record {
+    stream = h.all.stream;
+    config = h.all.config;
+    payload = h.all.payload;
+    size = h.all.size;
+    early = h.all.early;
+    late = h.all.late;
+    suits = k;
+  };
+  low = h.low;
+  high = h.high;
+}
 
 -- native packets that are small enough fit FLV
 pub flv_too : (s : MuxStreams) (p : Packet) → p.form ≡ form.Native → length p.payload ≤ 16777210 → Fits Mpegts s p → Fits Flv s p
 flv_too s p n l h = record {
-    all = record {
-        stream = h.all.stream;
-        config = h.all.config;
-        payload = h.all.payload;
-        size = h.all.size;
-        early = h.all.early;
-        late = h.all.late;
-        suits = (n, l) };
-    low = h.low;
-    high = h.high }
+  all = record {
+    stream = h.all.stream;
+    config = h.all.config;
+    payload = h.all.payload;
+    size = h.all.size;
+    early = h.all.early;
+    late = h.all.late;
+    suits = (n, l);
+  };
+  low = h.low;
+  high = h.high;
+}

@@ -1,6 +1,6 @@
-use Rattle.std.proofs.Common.{◌≡◌, ℕ, ◌+◌, ◌*◌, ◌≤◌, ◌<◌, List, ◌∷◌, length, sym, ap, ◌∙◌, arith}
+use Rattle.std.proofs.Common.{◌≡◌, ℕ, ◌+◌, ◌*◌, ◌≤◌, List, length, ap, ◌∙◌, arith}
 use Rattle.rmx_media.specs.Avc.{sets_of}
-use Rattle.rmx_media.specs.Units.{annexb, units_of}
+use Rattle.rmx_media.specs.Units.{units_of}
 use Rattle.avc_units.specs.Placed.{left_of}
 use Rattle.avc_units.specs.UnitList.{with_sets}
 use Rattle.avc_units.proofs.SizeLemmas.{size, size_none, size_one, size_units, size_sets, size_with_sets}
@@ -11,7 +11,7 @@ overflow_add-len-in-Some c =
     let sets : List (List ℕ) = sets_of c.args.config.now in
     let units : List (List ℕ) = units_of c.args.config.now.length_size c.args.payload.now in
     let one : size (left_of c.loop-unit.left) ≡ 4 + length c.in-Some.unit.now + size (left_of c.take_unit.new.self) =
-        ap size c.in-Some.ensures.1 ∙ size_one c.in-Some.unit.now (left_of c.take_unit.new.self) in
+    ap size c.in-Some.ensures.1 ∙ size_one c.in-Some.unit.now (left_of c.take_unit.new.self) in
     let whole : size (with_sets sets units) ≤ size sets + size units = size_with_sets sets units in
     let few : size sets ≤ 5 * length c.args.config.now.raw = size_sets c.args.config.now in
     let some : size units ≤ 5 * length c.args.payload.now = size_units c.args.config.now.length_size c.args.payload.now in
@@ -20,7 +20,7 @@ overflow_add-len-in-Some c =
 pub loop-unit-preserved : goal.loop-unit-preserved
 loop-unit-preserved c =
     let one : size (left_of c.loop-unit.left) ≡ 4 + length c.in-Some.unit.now + size (left_of c.take_unit.new.self) =
-        ap size c.in-Some.ensures.1 ∙ size_one c.in-Some.unit.now (left_of c.take_unit.new.self) in
+    ap size c.in-Some.ensures.1 ∙ size_one c.in-Some.unit.now (left_of c.take_unit.new.self) in
     omega (arith, c.loop-unit.invariant)
 
 pub returns : goal.returns
