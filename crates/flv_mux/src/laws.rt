@@ -4,5 +4,4 @@ ghost use Rattle.flv_mux.specs.Laws.{FilesAreTags};
 /// A whole file is one closed take: the head, the packets' tags, the tail.
 pub fn files_are_tags()
     ensures { FilesAreTags }
-{
-}
+{}
