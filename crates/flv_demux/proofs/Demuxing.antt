@@ -1,6 +1,6 @@
 -- The steps of a demuxer.
-use Rattle.std.proofs.Common.{◌≡◌, ℕ, ◌+◌, ◌<◌, ◌≤◌, ◌⊎◌, inl, inr, Bool, true, false, List, [], ◌∷◌, ◌++◌, append_assoc, append-nil, ap, ◌∙◌, sym, refl, subst, Option, Some, None, Result, Ok, Err, length, take, get_or, arith, length-append}
-use Rattle.std.specs.Prelude.{◌==◌, ◌≤ℤ◌}
+use Rattle.std.proofs.Common.{◌≡◌, ℕ, ◌+◌, ◌<◌, ◌≤◌, ◌⊎◌, inl, inr, Bool, true, false, List, [], ◌∷◌, ◌++◌, append_assoc, append-nil, ap, ◌∙◌, sym, refl, subst, Option, Some, None, length, take, get_or, arith, length-append}
+use Rattle.std.specs.Prelude.{◌==◌}
 use Rattle.std.specs.Option.{option_to_list}
 use Rattle.std.proofs.lemmas.List.{take-append-le}
 use Rattle.std.proofs.Math.Seq.{take-length}
@@ -9,22 +9,18 @@ use Rattle.rmx_media.specs.declared.streams.StreamInfo.{StreamInfo}
 use Rattle.flv_tags.specs.declared.tag.Tag.{Tag}
 use Rattle.flv_tags.specs.declared.tag.TagFault.{TagFault}
 use Rattle.flv_tags.specs.declared.tag.TagFault.TheVariants as fault
-use Rattle.flv_tags.specs.Tags.{Reading, reading_of, Begins}
-use Rattle.flv_tags.specs.Reader.{ReaderState, HasRead, HasNoFault}
+use Rattle.flv_tags.specs.Tags.{reading_of, Begins}
+use Rattle.flv_tags.specs.Reader.{ReaderState, HasRead}
 use Rattle.flv_tags.proofs.Grow.{tags_grow}
 use Rattle.flv_tags.proofs.Verdicts.{no_tags}
 use Rattle.flv_demux.specs.declared.deal.Desk.{Desk}
 use Rattle.flv_demux.specs.declared.deal.Kinds.{Kinds}
 use Rattle.flv_demux.specs.declared.deal.Outcome.TheVariants as outcome
 use Rattle.flv_demux.specs.declared.deal.Probe.{Probe}
-use Rattle.flv_demux.specs.declared.deal.Streams.{Streams}
-use Rattle.flv_demux.specs.declared.demuxer.DemuxFault.{DemuxFault}
-use Rattle.flv_demux.specs.declared.demuxer.DemuxFault.TheVariants as demux
-use Rattle.flv_demux.specs.declared.steps.Stepped.TheVariants as stepped
 use Rattle.flv_demux.specs.Probe.{probe_of, probed, is_decided, kinds_of, infos_of, has_stream}
-use Rattle.flv_demux.specs.Deal.{desk_of, new_desk, dealt, packets_by, packet_in, outcome_of, last_dts, IsSoundGift, IsSoundPacket}
-use Rattle.flv_demux.specs.State.{Core, Demuxed, Waits, Deals, IsSure, IsReadable, IsDecided, IsOfStream}
-use Rattle.flv_demux.specs.Steps.{ReadsOne, DealsFirst, GivesOne, PassesOn, IsThrough, HasNone, Steps, LooksAtNext, Decides}
+use Rattle.flv_demux.specs.Deal.{desk_of, dealt, packets_by, packet_in, outcome_of, IsSoundGift}
+use Rattle.flv_demux.specs.State.{Core, Demuxed, Deals, IsSure, IsReadable, IsDecided, IsOfStream}
+use Rattle.flv_demux.specs.Steps.{DealsFirst, GivesOne, PassesOn}
 use Rattle.flv_demux.proofs.Probing.{probe_stays, probe_of-one, probe_of-none, taken_more}
 use Rattle.flv_demux.proofs.Longer.{desk_of-one, desk_of-none, packets_by-one}
 use Rattle.flv_demux.proofs.Order.{InOrder, Ordered, ordered}

@@ -1,7 +1,6 @@
 -- The packets of longer lists of tags.
-use Rattle.std.proofs.Common.{◌≡◌, ℕ, Bool, true, false, List, [], ◌∷◌, ◌++◌, append_assoc, ap, ◌∙◌, sym, refl, Option, ◌<◌, ◌+◌, length, take, get_or}
-use Rattle.std.proofs.lemmas.List.{take_more}
-use Rattle.std.specs.Prelude.{if◌then◌else◌, fold}
+use Rattle.std.proofs.Common.{◌≡◌, List, [], ◌∷◌, ◌++◌, append_assoc, ap, ◌∙◌, sym, refl}
+use Rattle.std.specs.Prelude.{fold}
 use Rattle.std.specs.Option.{option_to_list}
 use Rattle.std.proofs.lemmas.List.Sums.{fold-append}
 use Rattle.rmx_media.specs.declared.packet.Packet.{Packet}
@@ -38,4 +37,3 @@ packets_by-append s a b = packets_from-append s new_desk a b
 pub desk_of-none : (s : Kinds) → desk_of s [] ≡ new_desk
 unfolding desk_of
 desk_of-none s = refl
-

@@ -1,13 +1,10 @@
 -- The dts of a stream's packets don't fall, and each packet is of a stream.
-use Rattle.std.proofs.Common.{◌≡◌, ℕ, ◌+◌, ◌<◌, ◌≤◌, Bool, true, false, not, List, [], ◌∷◌, ◌++◌, ap, ◌∙◌, sym, refl, subst, Option, Some, None, arith, zero, suc}
-use Rattle.std.specs.Prelude.{if◌then◌else◌, fold, ℤ, negsuc, ◌≤ℤ◌, ◌==◌, IfSome}
+use Rattle.std.proofs.Common.{◌≡◌, ℕ, ◌<◌, Bool, true, false, not, List, sym, refl, subst, Option, Some, None, arith}
+use Rattle.std.specs.Prelude.{if◌then◌else◌, ℤ, ◌≤ℤ◌, IfSome}
 use Rattle.std.specs.Int.{int_max}
-use Rattle.std.specs.Option.{option_to_list}
 use Rattle.std.proofs.lemmas.Int.{ints}
-use Rattle.std.proofs.lemmas.List.Sums.{fold-append}
 use Rattle.rmx_media.specs.declared.packet.Packet.{Packet}
 use Rattle.rmx_media.specs.declared.config.Config.{Config}
-use Rattle.rmx_media.specs.declared.config.Config.TheVariants.{Avc, Aac}
 use Rattle.rmx_media.specs.Config.{kind_of}
 use Rattle.flv_demux.specs.declared.deal.Kinds.{Kinds}
 use Rattle.rmx_media.specs.declared.streams.Kind.{Kind}

@@ -1,6 +1,6 @@
 -- Looking at tags.
-use Rattle.std.proofs.Common.{◌≡◌, ℕ, ◌+◌, ◌<◌, ◌≤◌, Bool, true, false, ◌||◌, ◌&&◌, List, [], ◌∷◌, ◌++◌, length, ap, ◌∙◌, sym, refl, arith, Option, Some, None, take, get_or}
-use Rattle.std.specs.Prelude.{if◌then◌else◌, fold, nat_le, is_some}
+use Rattle.std.proofs.Common.{◌≡◌, ℕ, ◌+◌, ◌<◌, Bool, true, false, ◌||◌, ◌&&◌, List, [], ◌∷◌, ◌++◌, length, ap, ◌∙◌, sym, refl, arith, take, get_or}
+use Rattle.std.specs.Prelude.{fold, nat_le, is_some}
 use Rattle.std.proofs.lemmas.List.{take_more}
 use Rattle.std.proofs.lemmas.List.Sums.{fold-append}
 use Rattle.rmx_media.specs.declared.config.Config.TheVariants.{Avc, Aac}

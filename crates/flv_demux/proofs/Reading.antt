@@ -1,12 +1,12 @@
 -- Reading one tag.
-use Rattle.std.proofs.Common.{◌≡◌, ℕ, ◌+◌, ◌<◌, ◌≤◌, Bool, true, false, List, [], ◌∷◌, ◌++◌, append_assoc, ap, ◌∙◌, sym, refl, subst, Option, Some, None, Result, Ok, Err, length, arith, zero, suc, get_or}
+use Rattle.std.proofs.Common.{◌≡◌, ℕ, ◌<◌, Bool, List, [], ◌∷◌, ◌++◌, append_assoc, ap, ◌∙◌, sym, subst, Ok, Err, length, arith, zero, suc}
 use Rattle.std.proofs.lemmas.List.Elements.{All-append}
 use Rattle.flv_tags.specs.declared.tag.Tag.{Tag}
 use Rattle.flv_tags.specs.declared.tag.TagFault.{TagFault}
 use Rattle.flv_tags.specs.declared.tag.TagFault.TheVariants as fault
 use Rattle.flv_tags.specs.declared.tag.TagStep.TheVariants as step
-use Rattle.flv_tags.specs.Tags.{reading_of, Begins}
-use Rattle.flv_tags.specs.Reader.{ReaderState, HasRead, HasNoFault, Answers}
+use Rattle.flv_tags.specs.Tags.{Begins}
+use Rattle.flv_tags.specs.Reader.{ReaderState, HasRead, Answers}
 use Rattle.flv_demux.specs.declared.steps.Read.TheVariants as read
 use Rattle.flv_demux.specs.State.{HaveSmallBodies}
 use Rattle.flv_demux.specs.Steps.{ReadsOne, fault_in}

@@ -1,11 +1,10 @@
 -- The steps, from what was read.
-use Rattle.std.proofs.Common.{◌≡◌, ℕ, ◌+◌, ◌<◌, ◌≤◌, ◌⊎◌, inl, inr, Bool, true, false, List, [], ◌∷◌, ◌++◌, append-nil, ap, ◌∙◌, sym, refl, subst, Option, Some, None, Result, Ok, Err, length, arith}
-use Rattle.rmx_media.specs.declared.packet.Packet.{Packet}
+use Rattle.std.proofs.Common.{◌≡◌, ℕ, ◌<◌, ◌≤◌, ◌⊎◌, inl, inr, Bool, true, false, List, [], ◌++◌, append-nil, ap, ◌∙◌, sym, refl, subst, Option, Some, None, Result, Ok, Err, length}
 use Rattle.flv_tags.specs.declared.tag.Tag.{Tag}
 use Rattle.flv_tags.specs.declared.tag.TagFault.{TagFault}
 use Rattle.flv_tags.specs.declared.tag.TagFault.TheVariants as fault
-use Rattle.flv_tags.specs.Tags.{Reading, reading_of, Begins}
-use Rattle.flv_tags.specs.Reader.{ReaderState, HasRead, HasNoFault}
+use Rattle.flv_tags.specs.Tags.{Reading, reading_of}
+use Rattle.flv_tags.specs.Reader.{ReaderState, HasRead}
 use Rattle.flv_demux.specs.declared.deal.Desk.{Desk}
 use Rattle.flv_demux.specs.declared.deal.Kinds.{Kinds}
 use Rattle.flv_demux.specs.declared.deal.Streams.{Streams}
@@ -17,9 +16,9 @@ use Rattle.flv_demux.specs.declared.steps.Stepped.TheVariants as stepped
 use Rattle.flv_demux.specs.declared.deal.Probe.{Probe}
 use Rattle.rmx_media.specs.declared.streams.StreamInfo.{StreamInfo}
 use Rattle.std.specs.Prelude.{IfOk, OnErr}
-use Rattle.flv_demux.specs.Probe.{probe_of, is_decided, kinds_of, infos_of, has_stream}
+use Rattle.flv_demux.specs.Probe.{probe_of, is_decided, has_stream}
 use Rattle.flv_demux.specs.State.{Core, Demuxed, IsReadable}
-use Rattle.flv_demux.specs.Steps.{ReadsOne, PassesOn, IsThrough, HasNone, Steps, LooksAtNext, Decides, is_cut, core_at}
+use Rattle.flv_demux.specs.Steps.{ReadsOne, PassesOn, Steps, LooksAtNext, Decides, is_cut, core_at}
 use Rattle.flv_demux.proofs.Demuxing.{on, kept, got, seen_next, all_looked, decided, sure_readable}
 
 -- where the kinds of streams are known
@@ -78,7 +77,6 @@ unknown_err (demux.Tag fault.CutTag) fed done s reader waiting n none e m r = cc
 unknown_err (demux.Tag fault.NoMemory) fed done s reader waiting n none e m r = r
 unknown_err demux.NoStreams fed done s reader waiting n none e m r = absurd r
 unknown_err demux.NoMemory fed done s reader waiting n none e m r = kept fed done s reader waiting e r.1 r.0 m
-
 
 -- the next waiting tag is looked at
 pub looked_next : (fed : List ℕ) (done : List Tag) (reader : ReaderState) (waiting : List Tag) (old new : Streams) (d : Desk) → old.known ≡ None → old.looked < length waiting → new.infos.items ≡ old.infos.items → LooksAtNext waiting old new → Demuxed fed done (core_at reader waiting old d) → PassesOn fed done (core_at reader waiting new d)

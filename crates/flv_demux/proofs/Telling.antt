@@ -1,9 +1,8 @@
 -- What is told of the tags dealt with.
-use Rattle.std.proofs.Common.{◌≡◌, ℕ, ◌+◌, ◌<◌, ◌≤◌, ◌⊎◌, inl, inr, Bool, true, false, ◌||◌, List, [], ◌∷◌, ◌++◌, append_assoc, append-nil, ap, ◌∙◌, sym, refl, subst, Option, Some, None, Result, Ok, Err, length, arith}
-use Rattle.std.specs.Prelude.{is_some, ◌≤ℤ◌, if◌then◌else◌}
+use Rattle.std.proofs.Common.{◌≡◌, ℕ, ◌<◌, ◌⊎◌, inl, inr, Bool, true, false, ◌||◌, List, [], ◌∷◌, ◌++◌, append_assoc, append-nil, ap, ◌∙◌, sym, refl, subst, Option, Some, None, Result, Ok, Err, arith}
+use Rattle.std.specs.Prelude.{is_some, ◌≤ℤ◌}
 use Rattle.rmx_media.specs.declared.packet.Packet.{Packet}
 use Rattle.rmx_media.specs.declared.packet.Format.TheVariants.{Flv}
-use Rattle.rmx_media.specs.declared.packet.Form.TheVariants.{Native}
 use Rattle.rmx_media.specs.declared.config.Config.{Config}
 use Rattle.rmx_media.specs.declared.streams.Kind.{Kind}
 use Rattle.rmx_media.specs.declared.streams.Kind.TheVariants.{Video, Audio}
@@ -11,14 +10,13 @@ use Rattle.rmx_media.specs.declared.streams.StreamInfo.{StreamInfo}
 use Rattle.rmx_media.specs.declared.streams.MuxStream.{MuxStream}
 use Rattle.rmx_media.specs.declared.streams.MuxStreams.{MuxStreams}
 use Rattle.rmx_media.specs.Config.{kind_of}
-use Rattle.rmx_media.specs.Fits.{Fits, FitsButDts, IsPayload}
+use Rattle.rmx_media.specs.Fits.{Fits}
 use Rattle.rmx_media.specs.Streams.{kind_in}
 use Rattle.flv_tags.specs.declared.tag.Tag.{Tag}
 use Rattle.flv_tags.specs.declared.tag.TagFault.TheVariants as fault
 use Rattle.flv_tags.specs.Tags.{reading_of, Begins}
 use Rattle.flv_tags.specs.Reader.{ReaderState, HasRead}
 use Rattle.flv_demux.specs.declared.deal.Desk.{Desk}
-use Rattle.flv_demux.specs.declared.deal.Discards.{Discards}
 use Rattle.flv_demux.specs.declared.deal.Kinds.{Kinds}
 use Rattle.flv_demux.specs.declared.deal.Probe.{Probe}
 use Rattle.flv_demux.specs.declared.deal.Shown.{Shown}
@@ -27,9 +25,9 @@ use Rattle.flv_demux.specs.declared.demuxer.DemuxStep.TheVariants as next
 use Rattle.flv_demux.specs.declared.demuxer.DemuxFault.{DemuxFault}
 use Rattle.flv_demux.specs.declared.demuxer.DemuxFault.TheVariants as demux
 use Rattle.flv_demux.specs.declared.steps.Stepped.TheVariants as stepped
-use Rattle.flv_demux.specs.Probe.{probe_of, is_decided, kinds_of, infos_of, info_list, kinds, streams, script, has, has_stream, number_of_stream, stream_count, numbered}
-use Rattle.flv_demux.specs.Deal.{desk_of, new_desk, packets_by, last_dts, IsSoundPacket}
-use Rattle.flv_demux.specs.State.{Core, DemuxState, Demuxed, HasDealt, IsShown, IsTold, Settles, IsSure, Deals, GivesPacket, Passes, DealsWithAll, Undecided, HasNoStreams, Nexts, unshown, shown_of, IsOfStream, IsDecided}
+use Rattle.flv_demux.specs.Probe.{probe_of, is_decided, kinds_of, infos_of, info_list, has, has_stream, number_of_stream, stream_count, numbered}
+use Rattle.flv_demux.specs.Deal.{desk_of, new_desk, packets_by, last_dts}
+use Rattle.flv_demux.specs.State.{Core, DemuxState, Demuxed, HasDealt, IsShown, IsTold, Settles, GivesPacket, Passes, DealsWithAll, Undecided, HasNoStreams, Nexts, unshown, shown_of, IsOfStream, IsDecided}
 use Rattle.flv_demux.specs.Steps.{GivesOne, PassesOn, IsThrough, HasNone, Steps, GivesNext, Advances, is_refusal}
 use Rattle.flv_demux.proofs.Demuxing.{sure_all, sure_decided, same_kinds, demuxed_fed, demuxed_ended}
 use Rattle.flv_demux.proofs.Longer.{desk_of-none}

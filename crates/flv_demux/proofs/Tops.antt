@@ -1,6 +1,6 @@
 -- What was seen of a stream is the dts of its last packet.
-use Rattle.std.proofs.Common.{◌≡◌, ℕ, Bool, true, false, not, List, [], ◌∷◌, ◌++◌, ap, ◌∙◌, sym, refl, subst, Option, Some, None, arith, append_assoc}
-use Rattle.std.specs.Prelude.{if◌then◌else◌, fold, ℤ, negsuc, ◌==◌, ◌≤ℤ◌, IfSome}
+use Rattle.std.proofs.Common.{◌≡◌, ℕ, Bool, true, false, List, [], ◌∷◌, ◌++◌, ap, ◌∙◌, sym, refl, subst, arith, append_assoc}
+use Rattle.std.specs.Prelude.{if◌then◌else◌, fold, ℤ, negsuc, ◌==◌, ◌≤ℤ◌}
 use Rattle.std.specs.Option.{option_to_list}
 use Rattle.std.proofs.lemmas.List.Sums.{fold-append}
 use Rattle.rmx_media.specs.declared.packet.Packet.{Packet}
@@ -8,15 +8,12 @@ use Rattle.rmx_media.specs.declared.streams.Kind.{Kind}
 use Rattle.rmx_media.specs.declared.streams.Kind.TheVariants.{Video, Audio}
 use Rattle.flv_tags.specs.declared.tag.Tag.{Tag}
 use Rattle.flv_demux.specs.declared.deal.Kinds.{Kinds}
-use Rattle.rmx_media.specs.declared.config.Config.{Config}
 use Rattle.rmx_media.specs.declared.config.Config.TheVariants.{Avc, Aac}
-use Rattle.rmx_media.specs.Config.{kind_of}
 use Rattle.flv_demux.specs.declared.deal.Desk.{Desk}
 use Rattle.flv_demux.specs.declared.deal.Outcome.{Outcome}
 use Rattle.flv_demux.specs.declared.deal.Outcome.TheVariants as outcome
 use Rattle.flv_demux.specs.Probe.{has, number_of_stream}
 use Rattle.flv_demux.specs.Deal.{seen, packet_in, outcome_of, dealt, entered, one_tag, desk_of, new_desk, packets_by, packets_from, last_dts}
-use Rattle.flv_demux.proofs.Longer.{desk_of-one, packets_by-one, desk_of-none}
 use Rattle.flv_demux.proofs.Order.{InOrder, Ordered, ordered}
 
 last_dts-one : (k : ℕ) (packets : List Packet) (p : Packet) → last_dts k (packets ++ p ∷ []) ≡ (if p.stream == k then p.dts else last_dts k packets)

@@ -1,5 +1,5 @@
 -- What comes of each tag, by what was seen of its stream.
-use Rattle.std.specs.Prelude.{◌≡◌, ℕ, ◌+◌, ◌-◌, ◌^◌, ◌≤◌, ◌<◌, min, Bool, true, false, ◌==◌, not, List, [], ◌∷◌, ◌++◌, length, fold, if◌then◌else◌, Option, Some, None, IfSome, ℤ, ◌+ℤ◌, negsuc, ◌≤ℤ◌, pos}
+use Rattle.std.specs.Prelude.{◌≡◌, ℕ, ◌+◌, ◌-◌, ◌^◌, ◌≤◌, min, Bool, true, false, ◌==◌, not, List, [], ◌∷◌, ◌++◌, length, fold, if◌then◌else◌, Option, Some, None, IfSome, ℤ, ◌+ℤ◌, negsuc, ◌≤ℤ◌, pos}
 use Rattle.std.specs.Int.{int_max}
 use Rattle.std.specs.Option.{option_to_list}
 use Rattle.std.specs.Str.{bytes_eq}

@@ -1,5 +1,5 @@
 -- One step of a demuxer.
-use Rattle.std.specs.Prelude.{◌≡◌, ℕ, suc, ◌+◌, ◌≤◌, slice_index_or, ◌⊎◌, Bool, true, false, List, [], ◌∷◌, ◌++◌, length, Option, Some, None, Result, Ok, Err, ℤ, ◌≤ℤ◌}
+use Rattle.std.specs.Prelude.{◌≡◌, ℕ, ◌+◌, ◌≤◌, slice_index_or, ◌⊎◌, Bool, true, false, List, [], ◌∷◌, ◌++◌, length, Option, Some, None, Result, Ok, Err, ◌≤ℤ◌}
 use Rattle.rmx_media.specs.declared.packet.Packet.{Packet}
 use Rattle.flv_tags.specs.declared.tag.Tag.{Tag}
 use Rattle.flv_tags.specs.declared.tag.TagFault.{TagFault}
@@ -19,7 +19,7 @@ use Rattle.flv_demux.specs.declared.steps.Stepped.{Stepped}
 use Rattle.flv_demux.specs.declared.steps.Stepped.TheVariants as stepped
 use Rattle.flv_demux.specs.Probe.{probe_of, probed, is_decided, has_stream, kinds_of, infos_of}
 use Rattle.flv_demux.specs.Deal.{dealt, packet_in, outcome_of, packets_by, IsSoundGift}
-use Rattle.flv_demux.specs.State.{Core, Demuxed, IsOfStream, IsReadable}
+use Rattle.flv_demux.specs.State.{Core, Demuxed, IsOfStream}
 use Rattle.flv_demux.specs.Deal.{last_dts}
 
 -- one tag was read behind those that wait, or there is none: then all whole tags were read

@@ -10,3 +10,6 @@ mod steps;
 
 pub use deal::Discards;
 pub use demuxer::{DemuxFault, DemuxStep, Demuxer};
+
+#[cfg(test)]
+mod tests;

@@ -12,7 +12,9 @@ use rmx_media::{
 
 // What a tag's kind says that it carries.
 const AUDIO: u8 = 8;
+
 const VIDEO: u8 = 9;
+
 const SCRIPT: u8 = 18;
 
 // The bytes from a place on.

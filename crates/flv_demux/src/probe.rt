@@ -12,6 +12,7 @@ use std::alloc::Global;
 
 // With so many tags, or so many bytes in their bodies, it is decided which streams there are.
 const MOST_TAGS: u64 = 64;
+
 const MOST_BYTES: u64 = 8388608;
 
 pub fn no_probe() -> Probe

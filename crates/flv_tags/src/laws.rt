@@ -20,5 +20,4 @@ pub fn heads_are_read_back()
 /// A text with a fault at its head has no tags.
 pub fn faults_at_the_head_have_no_tags()
     ensures { FaultsAtTheHeadHaveNoTags }
-{
-}
+{}

@@ -1,4 +1,4 @@
-use Rattle.std.proofs.Common.{◌≡◌, ◌∙◌, sym, arith, true}
+use Rattle.std.proofs.Common.{◌≡◌, arith, true}
 use Rattle.std.proofs.lemmas.Int.{ints}
 use Rattle.flv_demux.specs.Deal.{is_valid}
 use Rattle.flv_demux.proofs.Sound.{sound_packet}

@@ -1,4 +1,4 @@
-use Rattle.std.proofs.Common.{◌≡◌, ◌∙◌, sym, ap}
+use Rattle.std.proofs.Common.{◌∙◌, sym, ap}
 use Rattle.flv_demux.specs.Deal.{outcome_by}
 use Rattle.flv_demux.proofs.desk.outcome_of.Goals as goal
 

@@ -1,6 +1,5 @@
-use Rattle.std.proofs.Common.{◌≡◌, ◌∙◌, ap, ◌++◌, List, ◌∷◌, []}
+use Rattle.std.proofs.Common.{◌∙◌, ap, ◌++◌, List, ◌∷◌, []}
 use Rattle.flv_tags.specs.declared.tag.Tag.{Tag}
-use Rattle.flv_tags.specs.TagReader.{state_of}
 use Rattle.flv_demux.proofs.Reading.{reads_tag, reads_more, reads_end, reads_err, small_more}
 use Rattle.flv_demux.proofs.steps.read_tag.Goals as goal
 

@@ -1,4 +1,4 @@
-use Rattle.std.proofs.Common.{◌≡◌, ◌∙◌, refl, sym, true, []}
+use Rattle.std.proofs.Common.{◌≡◌, ◌∙◌, sym, true, []}
 use Rattle.flv_tags.specs.TagReader.{state_of}
 use Rattle.flv_demux.specs.Probe.{has_stream}
 use Rattle.flv_demux.specs.Steps.{core_at}

@@ -1,5 +1,4 @@
-use Rattle.std.proofs.Common.{◌≡◌, ◌∙◌, refl, sym, ap, true, false, arith, length, ◌≤◌, ◌<◌, List, inl, inr}
-use Rattle.flv_tags.specs.declared.tag.Tag.{Tag}
+use Rattle.std.proofs.Common.{◌≡◌, ◌∙◌, refl, sym, true, false, inl}
 use Rattle.flv_tags.specs.TagReader.{state_of}
 use Rattle.flv_demux.specs.Probe.{is_decided}
 use Rattle.flv_demux.specs.Steps.{core_at, is_cut}

@@ -1,4 +1,4 @@
-use Rattle.std.proofs.Common.{◌≡◌, ◌∙◌, Bool, Ok, Err, refl, subst, arith}
+use Rattle.std.proofs.Common.{◌∙◌, Bool, Ok, Err, refl, subst, arith}
 use Rattle.flv_demux.specs.declared.demuxer.DemuxStep.TheVariants as next
 use Rattle.flv_demux.specs.Steps.{Advances}
 use Rattle.flv_demux.proofs.Telling.{passes_on, packet_next, more_next, end_next, err_next}

@@ -1,4 +1,4 @@
-use Rattle.std.proofs.Common.{◌≡◌, sym, subst}
+use Rattle.std.proofs.Common.{sym, subst}
 use Rattle.flv_demux.specs.State.{HasDealt}
 use Rattle.flv_tags.specs.TagReader.{state_of}
 use Rattle.flv_demux.proofs.Telling.{ended_dealt}

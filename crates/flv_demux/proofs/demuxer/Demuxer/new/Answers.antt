@@ -1,4 +1,3 @@
-use Rattle.std.proofs.Common.{◌≡◌}
 use Rattle.flv_tags.specs.TagReader.{state_of}
 use Rattle.flv_demux.proofs.Telling.{new_dealt}
 use Rattle.flv_demux.proofs.demuxer.Demuxer.new.Goals as goal
