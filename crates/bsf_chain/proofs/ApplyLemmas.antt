@@ -1,20 +1,19 @@
 -- What filters leave, one after another.
-use Rattle.std.proofs.Common.{◌≡◌, ℕ, zero, suc, ◌+◌, ◌-◌, ◌*◌, ◌^◌, ◌<◌, ◌≤◌, Bool, true, false, cond, List, [], ◌∷◌, ◌++◌, length, take, drop, get_or, refl, sym, ap, ◌∙◌, arith, subst, Option, None, Some, length-append, drop-cons, add-one}
-use Rattle.std.specs.Prelude.{◌==◌, ◌||◌, ◌&&◌, not, nat_lt, if◌then◌else◌, filter, unwrap_or}
-use Rattle.std.specs.Option.{option_map, option_and_then}
-use Rattle.std.specs.List.{list_any, list_all}
+use Rattle.std.proofs.Common.{◌≡◌, ℕ, zero, suc, ◌+◌, ◌*◌, ◌<◌, ◌≤◌, Bool, true, false, cond, List, [], ◌∷◌, ◌++◌, length, drop, get_or, refl, sym, ap, ◌∙◌, arith, subst, Option, None, Some, length-append, drop-cons, add-one}
+use Rattle.std.specs.Prelude.{◌==◌, ◌||◌, ◌&&◌, not, if◌then◌else◌, filter}
+use Rattle.std.specs.Option.{option_and_then}
 use Rattle.std.proofs.lemmas.Bool.Decides.{nat_tests}
 use Rattle.bsf_chain.specs.declared.filter.Filter.{Filter}
 use Rattle.bsf_chain.specs.declared.filter.Filter.TheVariants.{ToAnnexB, FilterUnits, DumpExtra, Null, AacAdts}
-use Rattle.bsf_chain.specs.Apply.{Laid, laid, where_some, filtered, passed, printed, to_annexb}
+use Rattle.bsf_chain.specs.Apply.{Laid, laid, filtered, passed, to_annexb}
 use Rattle.bsf_chain.specs.Chain.{is_keeper, are_keepers}
 use Rattle.std.proofs.Math.Nat.{suc-mul}
 use Rattle.rmx_media.specs.Bits.{bytes_of}
-use Rattle.rmx_media.specs.Units.{annexb, native, sized, type_of, AreFilled}
+use Rattle.rmx_media.specs.Units.{native, sized, type_of, AreFilled}
 use Rattle.rmx_media.proofs.BitsLemmas.{length-bytes_of}
 use Rattle.avc_units.specs.UnitList.{kept, is_kept, has_type, before_idr, where_due, with_sets, begins, in_front, AreShort}
 use Rattle.avc_units.proofs.ShortLemmas.{filter_short}
-use Rattle.avc_units.proofs.SizeLemmas.{size, size_none, size_one, size_append, size_with_sets}
+use Rattle.avc_units.proofs.SizeLemmas.{size, size_none, size_one, size_append}
 
 -- the next filter leaves something, or nothing
 pub pass_some : (sets : List (List ℕ)) (key : Bool) (all filters : List Filter) (filter : Filter) (old new : Laid) → all ≡ filter ∷ filters

@@ -1,6 +1,6 @@
 -- Texts, cut at a separator.
-use Rattle.std.proofs.Common.{◌≡◌, ℕ, zero, suc, ◌+◌, ◌-◌, ◌*◌, ◌^◌, ◌<◌, ◌≤◌, Bool, true, false, cond, List, [], ◌∷◌, ◌++◌, length, take, drop, get_or, refl, sym, ap, ◌∙◌, arith, add-one, drop-cons, eq-eqb, Option, None, Some, Result, Ok, Err, append_assoc, lit<, min}
-use Rattle.std.specs.Prelude.{◌==◌, ◌&&◌, ◌||◌, not, nat_lt, nat_le, if◌then◌else◌, is_some, fold}
+use Rattle.std.proofs.Common.{◌≡◌, ℕ, zero, suc, ◌+◌, ◌-◌, ◌*◌, ◌^◌, ◌<◌, ◌≤◌, Bool, true, false, List, [], ◌∷◌, ◌++◌, length, take, drop, get_or, refl, sym, ap, ◌∙◌, arith, add-one, drop-cons, eq-eqb, Option, None, Some, Result, Ok, Err, append_assoc, lit<, min}
+use Rattle.std.specs.Prelude.{◌==◌, ◌&&◌, ◌||◌, nat_lt, nat_le, if◌then◌else◌}
 use Rattle.std.specs.Option.{option_map}
 use denote.Ref.{Bor}
 use Rattle.std.specs.List.{list_any, list_all}
@@ -10,8 +10,8 @@ use Rattle.std.proofs.lemmas.Bool.Decides.{nat_tests}
 use Rattle.std.proofs.Math.Nat.{pow-succ'}
 use Rattle.bsf_chain.specs.declared.filter.Filter.{Filter}
 use Rattle.bsf_chain.specs.declared.filter.BsfFault.{BsfFault}
-use Rattle.bsf_chain.specs.declared.filter.BsfFault.TheVariants.{UnknownFilter, BadArgument}
-use Rattle.bsf_chain.specs.Parse.{before, behind, onto_first, split_by, filter_of, with_filter, and_then, filters_of, chain_of, mask_from, is_digit, value_of, number_of, to_type, type_in}
+use Rattle.bsf_chain.specs.declared.filter.BsfFault.TheVariants.{BadArgument}
+use Rattle.bsf_chain.specs.Parse.{before, behind, onto_first, split_by, filter_of, with_filter, and_then, filters_of, mask_from, is_digit, value_of, number_of, to_type, type_in}
 
 other : (m n : ℕ) → (m ≡ n → ⊥) → (m == n) ≡ false
 other m n h = grind (arith, nat_tests)

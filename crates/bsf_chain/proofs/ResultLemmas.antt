@@ -1,5 +1,5 @@
 -- The result of a chain fits what the packet fits.
-use Rattle.std.proofs.Common.{◌≡◌, ℕ, zero, suc, ◌+◌, ◌-◌, ◌*◌, ◌<◌, ◌≤◌, Bool, true, false, cond, List, [], ◌∷◌, ◌++◌, length, take, drop, refl, sym, ap, ◌∙◌, arith, subst, Option, None, Some, Result, Ok, Err, length-append}
+use Rattle.std.proofs.Common.{◌≡◌, ℕ, zero, suc, ◌+◌, ◌*◌, ◌<◌, ◌≤◌, Bool, true, false, cond, List, [], ◌∷◌, length, take, drop, refl, sym, ap, ◌∙◌, arith, subst, Option, None, Some, Result, Ok, Err, length-append}
 use Rattle.std.specs.Result.{IfOk}
 use Rattle.std.specs.Prelude.{nat_lt, if◌then◌else◌, filter, unwrap_or, IfSome}
 use Rattle.std.specs.Option.{option_map}
@@ -8,7 +8,7 @@ use Rattle.std.proofs.lemmas.List.{length-drop, length-take}
 use Rattle.std.proofs.lemmas.Bool.Decides.{nat_tests}
 use Rattle.bsf_chain.specs.declared.filter.Filter.{Filter}
 use Rattle.bsf_chain.specs.declared.filter.Filter.TheVariants.{ToAnnexB, FilterUnits, DumpExtra, Null, AacAdts}
-use Rattle.bsf_chain.specs.Apply.{IsKept, Laid, laid, laid_of, passed, printed, packet_of, form_of, in_form, video_result, result_by, result_of, acts_on_video, acts_on_audio}
+use Rattle.bsf_chain.specs.Apply.{IsKept, Laid, laid, laid_of, passed, packet_of, form_of, in_form, video_result, result_by, result_of, acts_on_video, acts_on_audio}
 use Rattle.bsf_chain.specs.Chain.{are_keepers}
 use Rattle.bsf_chain.proofs.ApplyLemmas.{Good, taken, taken_one, taken_none, good_all, grown, grown_small, keeper_all, never}
 use Rattle.rmx_media.specs.declared.aac.AacConfig.{AacConfig}
@@ -26,10 +26,9 @@ use Rattle.rmx_media.specs.declared.packet.Format.TheVariants.{Flv, Mpegts}
 use Rattle.rmx_media.specs.declared.streams.MuxStreams.{MuxStreams}
 use Rattle.rmx_media.specs.Streams.{kind_in}
 use Rattle.std.specs.Prelude.{ℤ, pos, negsuc, ◌≤ℤ◌, ◌+ℤ◌}
-use Rattle.rmx_media.specs.Units.{is_filled, size_in, parts_by, parts_of, units_of, is_valid, annexb, native, AreFilled, IsAnnexb}
+use Rattle.rmx_media.specs.Units.{is_filled, size_in, parts_by, parts_of, units_of, is_valid, annexb, native, AreFilled}
 use Rattle.rmx_media.proofs.AvcLemmas.{length_size}
 use Rattle.rmx_media.proofs.BitsLemmas.{length-bytes_of}
-use Rattle.avc_units.specs.UnitList.{AreShort}
 use Rattle.avc_units.proofs.NativeLemmas.{valid_back}
 use Rattle.avc_units.proofs.ShortLemmas.{IsBytes, units_short, units_filled, all_filled}
 use Rattle.avc_units.proofs.SizeLemmas.{size, size_units, size_sets}

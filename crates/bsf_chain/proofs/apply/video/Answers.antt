@@ -1,4 +1,4 @@
-use Rattle.std.proofs.Common.{◌≡◌, ℕ, zero, suc, ◌+◌, ◌-◌, ◌*◌, ◌^◌, ◌<◌, ◌≤◌, ◌++◌, Bool, true, false, List, [], ◌∷◌, length, take, drop, get_or, sym, refl, ap, ◌∙◌, arith, subst, Option, Some, None, Ok, Err, min}
+use Rattle.std.proofs.Common.{◌≡◌, ℕ, ◌+◌, Bool, List, drop, get_or, sym, ap, ◌∙◌, subst, Option, Some, None}
 use Rattle.std.specs.Result.{IfOk}
 use Rattle.std.specs.Prelude.{if◌then◌else◌}
 use Rattle.std.specs.Option.{option_map}
@@ -9,7 +9,6 @@ use Rattle.rmx_media.specs.declared.packet.Form.{Form}
 use Rattle.rmx_media.specs.Avc.{sets_of}
 use Rattle.rmx_media.specs.declared.packet.Packet.{Packet}
 use Rattle.rmx_media.proofs.AvcLemmas.{length_size}
-use Rattle.avc_units.specs.UnitList.{AreShort}
 use Rattle.bsf_chain.proofs.ApplyLemmas.{pass_some, pass_none, passed_end, pass_short, drop_one}
 use Rattle.bsf_chain.proofs.apply.video.Goals as goal
 

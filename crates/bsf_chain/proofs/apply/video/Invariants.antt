@@ -1,4 +1,4 @@
-use Rattle.std.proofs.Common.{◌≡◌, ℕ, ◌+◌, ◌-◌, ◌≤◌, ◌++◌, Bool, true, List, length, take, drop, min}
+use Rattle.std.proofs.Common.{◌≡◌, drop}
 use Rattle.std.proofs.Common.{false}
 use Rattle.bsf_chain.specs.Apply.{passed, laid, laid_of}
 use Rattle.rmx_media.specs.Avc.{sets_of}

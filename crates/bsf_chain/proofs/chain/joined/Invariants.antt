@@ -1,5 +1,4 @@
-use Rattle.std.proofs.Common.{◌≡◌, ℕ, ◌+◌, ◌-◌, ◌≤◌, ◌++◌, Bool, true, List, length, take, drop, min}
-use Rattle.bsf_chain.specs.declared.filter.Filter.{Filter}
+use Rattle.std.proofs.Common.{◌≡◌, ◌++◌, take}
 use Rattle.bsf_chain.proofs.chain.joined.Given as goal
 
 abbrev pub invariant-loop-filter : goal.invariant-loop-filter

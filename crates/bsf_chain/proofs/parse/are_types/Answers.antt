@@ -1,6 +1,5 @@
-use Rattle.std.proofs.Common.{◌≡◌, ℕ, zero, suc, ◌+◌, ◌-◌, ◌*◌, ◌^◌, ◌<◌, ◌≤◌, ◌++◌, Bool, true, false, List, [], ◌∷◌, length, take, drop, get_or, sym, refl, ap, ◌∙◌, arith, subst, Option, Some, None, Ok, Err, min}
+use Rattle.std.proofs.Common.{[], sym, refl, ◌∙◌}
 use Rattle.std.specs.Prelude.{is_some}
-use Rattle.std.specs.List.{list_all}
 use Rattle.bsf_chain.specs.Parse.{are_types, range_of, behind, split_by}
 use Rattle.bsf_chain.proofs.ParseLemmas.{all_one, all_not, rest_by, split_part, split_none, split_some, some_behind, none_behind}
 use Rattle.bsf_chain.proofs.parse.are_types.Goals as goal

@@ -1,5 +1,4 @@
-use Rattle.std.proofs.Common.{◌≡◌, ℕ, zero, suc, ◌+◌, ◌-◌, ◌*◌, ◌^◌, ◌<◌, ◌≤◌, ◌++◌, Bool, true, false, List, [], ◌∷◌, length, take, drop, get_or, sym, refl, ap, ◌∙◌, arith, subst, Option, Some, None, Ok, Err, min}
-use Rattle.std.specs.List.{list_any}
+use Rattle.std.proofs.Common.{[], sym, refl, ◌∙◌}
 use Rattle.bsf_chain.specs.Parse.{has_type, in_range, range_of, behind, split_by}
 use Rattle.bsf_chain.proofs.ParseLemmas.{any_one, any_here, rest_by, split_part, split_none, split_some, some_behind, none_behind}
 use Rattle.bsf_chain.proofs.parse.has_type.Goals as goal

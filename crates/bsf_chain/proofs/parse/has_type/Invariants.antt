@@ -1,4 +1,4 @@
-use Rattle.std.proofs.Common.{◌≡◌, ℕ, ◌+◌, ◌-◌, ◌≤◌, ◌++◌, Bool, true, List, length, take, drop, min}
+use Rattle.std.proofs.Common.{◌≡◌, length}
 use Rattle.std.specs.List.{list_any}
 use Rattle.bsf_chain.specs.Parse.{has_type, in_range, range_of, split_by}
 use Rattle.bsf_chain.proofs.parse.has_type.Given as goal

@@ -1,4 +1,4 @@
-use Rattle.std.proofs.Common.{◌≡◌, ℕ, ◌+◌, ◌-◌, ◌≤◌, ◌++◌, Bool, true, List, length, take, drop, min}
+use Rattle.std.proofs.Common.{◌≡◌, ◌-◌, ◌≤◌}
 use Rattle.std.specs.Prelude.{not, if◌then◌else◌}
 use Rattle.bsf_chain.specs.Parse.{has_type, mask_from}
 use Rattle.bsf_chain.proofs.parse.mask.Given as goal

@@ -1,4 +1,4 @@
-use Rattle.std.proofs.Common.{◌≡◌, ℕ, zero, suc, ◌+◌, ◌-◌, ◌*◌, ◌^◌, ◌<◌, ◌≤◌, ◌++◌, Bool, true, false, List, [], ◌∷◌, length, take, drop, get_or, sym, refl, ap, ◌∙◌, arith, subst, Option, Some, None, Ok, Err, min}
+use Rattle.std.proofs.Common.{◌≡◌, ◌-◌, List, [], length, sym, ap, ◌∙◌, arith, subst}
 use Rattle.bsf_chain.specs.declared.filter.Filter.{Filter}
 use Rattle.bsf_chain.specs.Parse.{chain_of, filters_of, split_by, behind}
 use Rattle.bsf_chain.proofs.ParseLemmas.{onto, onto_none, none_more, fault_more, filter_more, end_more, rest_by, split_part, split_none, split_some, some_behind, none_behind}

@@ -1,4 +1,4 @@
-use Rattle.std.proofs.Common.{◌≡◌, ℕ, ◌+◌, ◌-◌, ◌≤◌, ◌++◌, Bool, true, List, length, take, drop, min}
+use Rattle.std.proofs.Common.{◌≡◌, ◌-◌, ◌≤◌, length}
 use Rattle.bsf_chain.specs.Parse.{chain_of, filters_of, split_by}
 use Rattle.bsf_chain.proofs.ParseLemmas.{onto}
 use Rattle.bsf_chain.proofs.parse.parse_filters.Given as goal

@@ -1,4 +1,4 @@
-use Rattle.std.proofs.Common.{◌≡◌, ℕ, ◌+◌, ◌-◌, ◌≤◌, ◌++◌, Bool, true, List, length, take, drop, min}
+use Rattle.std.proofs.Common.{◌≡◌, true, take, min}
 use Rattle.std.specs.List.{list_all}
 use Rattle.bsf_chain.specs.Parse.{is_digit, value_of}
 use Rattle.bsf_chain.proofs.parse.type_number.Given as goal

@@ -1,4 +1,3 @@
-use Rattle.std.proofs.Common.{◌≡◌, ℕ, ◌+◌, ◌-◌, ◌*◌, ◌<◌, ◌≤◌, ◌++◌, Bool, true, false, List, [], ◌∷◌, length, take, drop, get_or, sym, refl, ap, ◌∙◌, arith, subst, Option, Some, None, Ok, Err, min}
 use Rattle.bsf_chain.specs.Parse.{before, behind}
 use Rattle.bsf_chain.proofs.ParseLemmas.{uncut_before, uncut_behind, cut_behind}
 use Rattle.bsf_chain.proofs.text.cut.Goals as goal

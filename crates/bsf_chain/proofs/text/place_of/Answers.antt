@@ -1,4 +1,4 @@
-use Rattle.std.proofs.Common.{◌≡◌, ℕ, ◌+◌, ◌-◌, ◌*◌, ◌<◌, ◌≤◌, ◌++◌, Bool, true, false, List, [], ◌∷◌, length, take, drop, get_or, sym, refl, ap, ◌∙◌, arith, subst, Option, Some, None, Ok, Err, min}
+use Rattle.std.proofs.Common.{◌∙◌}
 use Rattle.bsf_chain.specs.Parse.{before, behind}
 use Rattle.bsf_chain.proofs.ParseLemmas.{before_more, behind_more, found_before, found_behind, none_before, none_behind_at}
 use Rattle.bsf_chain.proofs.text.place_of.Goals as goal
