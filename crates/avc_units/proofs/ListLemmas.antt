@@ -1,14 +1,14 @@
 -- Lists of slices, and the units that they show.
-use Rattle.std.proofs.Common.{◌≡◌, ℕ, zero, suc, ◌+◌, ◌-◌, ◌^◌, ◌<◌, ◌≤◌, Bool, true, false, cond, List, [], ◌∷◌, ◌++◌, length, take, drop, get_or, refl, sym, ap, ◌∙◌, arith, append_assoc, add-one, drop-cons, eq-eqb, subst}
+use Rattle.std.proofs.Common.{◌≡◌, ℕ, zero, suc, ◌+◌, ◌-◌, ◌^◌, ◌<◌, ◌≤◌, Bool, true, false, cond, List, [], ◌∷◌, ◌++◌, length, drop, get_or, refl, sym, ap, ◌∙◌, arith, append_assoc, add-one, drop-cons, eq-eqb, subst}
 use Rattle.std.proofs.lemmas.Bool.Decides.{nat_tests}
-use Rattle.std.specs.Prelude.{◌==◌, ◌&&◌, filter, map, not, nat_eq, unwrap_or, if◌then◌else◌}
+use Rattle.std.specs.Prelude.{◌==◌, ◌&&◌, filter, not, nat_eq, unwrap_or, if◌then◌else◌}
 use denote.Ref.{Bor}
 use Rattle.rmx_media.specs.Bits.{bytes_of}
 use Rattle.rmx_media.specs.Units.{type_of, is_filled, annexb, native, sized, started, units_of, parts_of}
 use Rattle.avc_units.specs.Placed.{behind}
 use Rattle.std.specs.Cmp.Lexicographic.{pointwise}
 use Rattle.avc_units.proofs.UnitsLemmas.{is_short, is_long}
-use Rattle.avc_units.specs.UnitList.{shown, kept, is_kept, has_type, before_idr, where_due, with_sets, begins, in_front, AreShort}
+use Rattle.avc_units.specs.UnitList.{shown, has_type, before_idr, where_due, begins, AreShort}
 
 pub shown_append : (xs ys : List (Bor (List ℕ))) → shown (xs ++ ys) ≡ shown xs ++ shown ys
 shown_append [] ys = refl

@@ -1,10 +1,9 @@
 -- Units that were printed behind length fields are read again.
-use Rattle.std.proofs.Common.{◌≡◌, ℕ, zero, suc, ◌+◌, ◌-◌, ◌^◌, ◌<◌, ◌≤◌, Bool, true, false, List, [], ◌∷◌, ◌++◌, length, take, drop, refl, sym, ap, ◌∙◌, arith, Option, None, Some, append_assoc, length-append, cond, subst}
-use Rattle.std.specs.Prelude.{is_some, filter, unwrap_or, nat_lt}
+use Rattle.std.proofs.Common.{◌≡◌, ℕ, ◌+◌, ◌<◌, ◌≤◌, Bool, true, List, [], ◌∷◌, ◌++◌, length, take, drop, refl, sym, ap, ◌∙◌, arith, Option, Some, append_assoc, length-append, cond}
+use Rattle.std.specs.Prelude.{filter, unwrap_or, nat_lt}
 use Rattle.std.specs.Option.{option_map}
-use Rattle.std.proofs.lemmas.List.{length-drop}
 use Rattle.rmx_media.specs.Bits.{number_of, bytes_of}
-use Rattle.rmx_media.specs.Units.{is_filled, sized, native, size_in, parts_of, units_of, is_valid, AreFilled}
+use Rattle.rmx_media.specs.Units.{is_filled, native, size_in, parts_of, units_of, is_valid, AreFilled}
 use Rattle.rmx_media.proofs.BitsLemmas.{length-bytes_of, number_of-bytes_of}
 use Rattle.avc_units.specs.UnitList.{AreShort}
 use Rattle.avc_units.proofs.UnitsLemmas.{parts_none, parts_more, is_short}

@@ -1,10 +1,9 @@
 -- The units of a payload have bytes, and their lengths fit the length fields.
-use Rattle.std.proofs.Common.{◌≡◌, ℕ, zero, suc, ◌+◌, ◌-◌, ◌*◌, ◌^◌, ◌<◌, ◌≤◌, Bool, true, false, cond, List, [], ◌∷◌, length, take, drop, get_or, refl, sym, ap, ◌∙◌, arith, Option, None, Some, subst, lit<}
+use Rattle.std.proofs.Common.{◌≡◌, ℕ, zero, suc, ◌+◌, ◌^◌, ◌<◌, ◌≤◌, Bool, true, false, cond, List, [], ◌∷◌, length, take, drop, get_or, refl, arith, Option, None, Some, lit<}
 use Rattle.std.specs.Prelude.{nat_lt, filter, unwrap_or, if◌then◌else◌}
 use Rattle.std.specs.Option.{option_map}
 use Rattle.std.proofs.lemmas.List.{length-take}
 use Rattle.std.proofs.lemmas.Bool.Decides.{nat_tests}
-use Rattle.rmx_media.specs.Bits.{number_of}
 use Rattle.rmx_media.specs.Units.{is_filled, size_in, parts_by, parts_of, units_of, AreFilled}
 use Rattle.avc_units.specs.UnitList.{AreShort}
 

@@ -1,15 +1,14 @@
 -- How long the Annex B form is.
-use Rattle.std.proofs.Common.{◌≡◌, ℕ, zero, suc, ◌+◌, ◌-◌, ◌*◌, ◌<◌, ◌≤◌, Bool, true, false, cond, List, [], ◌∷◌, ◌++◌, length, take, drop, refl, sym, ap, ◌∙◌, arith, Option, None, Some, length-append, subst}
-use Rattle.std.specs.Prelude.{nat_lt, is_some, filter, unwrap_or, not, slice_index, if◌then◌else◌, ◌==◌, ◌%◌, Result, Ok}
+use Rattle.std.proofs.Common.{◌≡◌, ℕ, zero, suc, ◌+◌, ◌-◌, ◌*◌, ◌<◌, ◌≤◌, Bool, true, false, cond, List, [], ◌∷◌, ◌++◌, length, take, drop, refl, ap, ◌∙◌, arith, Option, None, Some, length-append}
+use Rattle.std.specs.Prelude.{nat_lt, filter, unwrap_or, not, slice_index, if◌then◌else◌, ◌==◌, ◌%◌}
 use Rattle.std.specs.Option.{option_map}
 use Rattle.std.proofs.lemmas.List.{length-drop, length-take}
 use Rattle.std.proofs.lemmas.Bool.Decides.{nat_tests}
 use Rattle.rmx_media.specs.declared.avc.AvcConfig.{AvcConfig}
 use Rattle.rmx_media.specs.Avc.{Run, run_of, with_set, sets_after, with_sets as after_sets, sets_in, some_sets, all_sets, sets_of}
 use Rattle.rmx_media.specs.Bits.{number_of}
-use Rattle.rmx_media.specs.Units.{is_filled, type_of, annexb, started, size_in, parts_by, parts_of, units_of}
+use Rattle.rmx_media.specs.Units.{is_filled, type_of, annexb, size_in, parts_by, parts_of, units_of}
 use Rattle.avc_units.specs.UnitList.{has_type, before_idr, where_due, with_sets}
-use Rattle.avc_units.proofs.UnitsLemmas.{is_short, is_long}
 
 abbrev pub size : List (List ℕ) → ℕ
 size units = length (annexb units)

@@ -1,5 +1,5 @@
 -- A cursor over units with the parameter sets at their place.
-use Rattle.std.specs.Prelude.{ℕ, Bool, true, false, if◌then◌else◌, List, [], ◌∷◌, ◌++◌}
+use Rattle.std.specs.Prelude.{ℕ, true, if◌then◌else◌, List, ◌∷◌, ◌++◌}
 use Rattle.avc_units.specs.declared.placed.Placed.{Placed}
 use Rattle.avc_units.specs.Filled.{left_of as sets_left}
 use Rattle.avc_units.specs.UnitList.{where_due}

@@ -1,5 +1,4 @@
-use Rattle.std.proofs.Common.{◌≡◌, ℕ, ◌+◌, ◌<◌, ◌++◌, Bool, true, false, List, [], ◌∷◌, length, drop, get_or, sym, ap, ◌∙◌, arith, subst, Result, cond}
-use Rattle.avc_units.specs.UnitList.{shown, begins}
+use Rattle.std.proofs.Common.{sym, ◌∙◌, arith}
 use Rattle.avc_units.specs.Filled.{left_of}
 use Rattle.avc_units.proofs.ListLemmas.{begins_short, begins_other, begins_more}
 use Rattle.avc_units.proofs.list.begins_with.Goals as goal

@@ -1,4 +1,4 @@
-use Rattle.std.proofs.Common.{◌≡◌, ◌++◌, ◌≤◌, length, take, drop}
+use Rattle.std.proofs.Common.{◌≡◌, ◌≤◌, length, drop}
 use Rattle.avc_units.specs.UnitList.{shown, begins}
 use Rattle.avc_units.specs.Filled.{left_of}
 use Rattle.rmx_media.specs.Avc.{sets_of}

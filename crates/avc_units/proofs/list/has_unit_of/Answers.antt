@@ -1,5 +1,5 @@
-use Rattle.std.proofs.Common.{◌≡◌, ℕ, ◌+◌, drop, get_or, sym, ap, ◌∙◌, arith}
-use Rattle.avc_units.specs.UnitList.{shown, has_type}
+use Rattle.std.proofs.Common.{◌+◌, drop, get_or, sym, ◌∙◌}
+use Rattle.avc_units.specs.UnitList.{shown}
 use Rattle.avc_units.proofs.ListLemmas.{nothing, has_first, has_later, has_none, shown_drop}
 use Rattle.avc_units.proofs.list.has_unit_of.Goals as goal
 

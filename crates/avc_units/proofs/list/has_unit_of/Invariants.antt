@@ -1,4 +1,4 @@
-use Rattle.std.proofs.Common.{◌≡◌, ◌++◌, ◌≤◌, length, take, drop}
+use Rattle.std.proofs.Common.{◌≡◌, drop}
 use Rattle.avc_units.specs.UnitList.{shown, has_type}
 use Rattle.avc_units.proofs.list.has_unit_of.Given as goal
 

@@ -1,4 +1,4 @@
-use Rattle.std.proofs.Common.{◌≡◌, ℕ, List, ap, ◌∙◌, rules}
+use Rattle.std.proofs.Common.{ℕ, List, ap, ◌∙◌, rules}
 use denote.Ref.{Bor}
 use Rattle.std.proofs.lemmas.Fn.{filter_same}
 use Rattle.avc_units.specs.UnitList.{shown, is_kept}

@@ -1,4 +1,4 @@
-use Rattle.std.proofs.Common.{◌≡◌, sym, ◌∙◌}
+use Rattle.std.proofs.Common.{sym, ◌∙◌}
 use Rattle.avc_units.specs.UnitList.{shown}
 use Rattle.avc_units.proofs.ListLemmas.{shown_more, shown_end}
 use Rattle.avc_units.proofs.list.push_units.Goals as goal

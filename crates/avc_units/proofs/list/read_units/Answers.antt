@@ -1,4 +1,4 @@
-use Rattle.std.proofs.Common.{◌≡◌, ◌++◌, List, ℕ, ap, ◌∙◌, sym}
+use Rattle.std.proofs.Common.{◌++◌, List, ℕ, ap, ◌∙◌, sym}
 use Rattle.rmx_media.proofs.AvcLemmas.{length_size}
 use Rattle.avc_units.specs.UnitList.{shown}
 use Rattle.avc_units.proofs.ListLemmas.{end}

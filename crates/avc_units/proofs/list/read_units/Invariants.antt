@@ -1,4 +1,4 @@
-use Rattle.std.proofs.Common.{◌≡◌, ◌++◌, ◌≤◌, length, take, drop}
+use Rattle.std.proofs.Common.{◌≡◌, ◌++◌, length}
 use Rattle.avc_units.specs.UnitList.{shown}
 use Rattle.avc_units.specs.Units.{left_of}
 use Rattle.rmx_media.specs.Units.{units_of}

@@ -1,7 +1,7 @@
-use Rattle.std.proofs.Common.{◌≡◌, ℕ, ◌+◌, ◌<◌, ◌++◌, Bool, true, false, List, [], ◌∷◌, length, drop, get_or, sym, ap, ◌∙◌, arith, subst, Result, cond}
+use Rattle.std.proofs.Common.{ℕ, ◌++◌, Bool, List, sym, ap, ◌∙◌}
 use Rattle.std.specs.Prelude.{if◌then◌else◌}
 use Rattle.rmx_media.specs.Avc.{sets_of}
-use Rattle.avc_units.specs.UnitList.{shown, begins, in_front}
+use Rattle.avc_units.specs.UnitList.{shown, in_front}
 use Rattle.avc_units.proofs.list.units_behind_sets.Goals as goal
 
 pub returns-then-begins_with : goal.returns-then-begins_with

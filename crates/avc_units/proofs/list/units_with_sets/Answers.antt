@@ -1,8 +1,7 @@
-use Rattle.std.proofs.Common.{◌≡◌, ℕ, ◌+◌, ◌<◌, ◌++◌, Bool, true, false, List, [], ◌∷◌, length, drop, get_or, sym, ap, ◌∙◌, arith, subst, Result, cond}
+use Rattle.std.proofs.Common.{ℕ, ◌++◌, Bool, List, ap, ◌∙◌}
 use Rattle.std.specs.Prelude.{not}
 use Rattle.rmx_media.specs.Avc.{sets_of}
-use Rattle.avc_units.specs.UnitList.{shown, where_due, with_sets, has_type}
-use Rattle.avc_units.proofs.ListLemmas.{shown_drop, drop_all, end}
+use Rattle.avc_units.specs.UnitList.{shown, where_due, with_sets}
 use Rattle.avc_units.proofs.list.units_with_sets.Goals as goal
 
 pub loop-unit-init : goal.loop-unit-init

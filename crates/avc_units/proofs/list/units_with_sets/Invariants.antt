@@ -1,4 +1,4 @@
-use Rattle.std.proofs.Common.{◌≡◌, ◌++◌, ◌≤◌, length, take, drop}
+use Rattle.std.proofs.Common.{◌≡◌, ◌++◌, drop}
 use Rattle.avc_units.specs.UnitList.{shown, where_due, with_sets}
 use Rattle.rmx_media.specs.Avc.{sets_of}
 use Rattle.avc_units.proofs.list.units_with_sets.Given as goal

@@ -1,6 +1,6 @@
-use Rattle.std.proofs.Common.{◌≡◌, ℕ, ◌+◌, ◌*◌, ◌≤◌, ◌<◌, List, ◌∷◌, length, sym, ap, ◌∙◌, arith}
+use Rattle.std.proofs.Common.{◌≡◌, ℕ, ◌+◌, ◌*◌, ◌≤◌, List, length, ap, ◌∙◌, arith}
 use Rattle.rmx_media.specs.Avc.{sets_of}
-use Rattle.rmx_media.specs.Units.{annexb, units_of}
+use Rattle.rmx_media.specs.Units.{units_of}
 use Rattle.avc_units.specs.Placed.{left_of}
 use Rattle.avc_units.specs.UnitList.{with_sets}
 use Rattle.avc_units.proofs.SizeLemmas.{size, size_none, size_one, size_units, size_sets, size_with_sets}

@@ -1,4 +1,4 @@
-use Rattle.std.proofs.Common.{◌≡◌, ◌++◌, ◌≤◌, length, take, drop}
+use Rattle.std.proofs.Common.{◌≡◌, length}
 use Rattle.avc_units.specs.UnitList.{has_type}
 use Rattle.avc_units.specs.Units.{left_of}
 use Rattle.avc_units.proofs.placed.has_parameters.Given as goal

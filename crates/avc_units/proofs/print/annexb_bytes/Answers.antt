@@ -1,7 +1,5 @@
-use Rattle.std.proofs.Common.{◌≡◌, ℕ, ◌+◌, ◌<◌, ◌++◌, Bool, true, false, List, [], ◌∷◌, length, drop, get_or, sym, ap, ◌∙◌, arith, subst, Result, cond}
+use Rattle.std.proofs.Common.{◌≡◌, ℕ, List, sym, ◌∙◌, subst}
 use Rattle.std.specs.Result.{IfOk}
-use Rattle.rmx_media.specs.Units.{annexb}
-use Rattle.avc_units.specs.UnitList.{shown}
 use Rattle.avc_units.proofs.ListLemmas.{annexb_more, annexb_end}
 use Rattle.avc_units.proofs.print.annexb_bytes.Goals as goal
 

@@ -1,4 +1,4 @@
-use Rattle.std.proofs.Common.{◌≡◌, ◌++◌, ◌≤◌, length, take, drop}
+use Rattle.std.proofs.Common.{◌≡◌, ◌++◌, drop}
 use Rattle.avc_units.specs.UnitList.{shown}
 use Rattle.rmx_media.specs.Units.{annexb}
 use Rattle.avc_units.proofs.print.annexb_bytes.Given as goal

@@ -1,4 +1,4 @@
-use Rattle.std.proofs.Common.{◌≡◌, ℕ, ◌+◌, ◌-◌, ◌<◌, ◌++◌, Bool, true, false, List, [], ◌∷◌, length, drop, get_or, sym, ap, ◌∙◌, arith, subst, append_assoc}
+use Rattle.std.proofs.Common.{◌≡◌, ℕ, ◌-◌, ◌++◌, List, length, drop, ap, ◌∙◌, subst, append_assoc}
 use Rattle.std.specs.Result.{OnOk}
 use Rattle.rmx_media.specs.Bits.{bytes_of}
 use Rattle.avc_units.proofs.ListLemmas.{field_tail, field_fits}

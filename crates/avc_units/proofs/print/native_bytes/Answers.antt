@@ -1,8 +1,6 @@
-use Rattle.std.proofs.Common.{◌≡◌, ℕ, ◌+◌, ◌<◌, ◌++◌, Bool, true, false, List, [], ◌∷◌, length, drop, get_or, sym, ap, ◌∙◌, arith, subst, Result, cond}
+use Rattle.std.proofs.Common.{◌≡◌, ℕ, List, sym, ◌∙◌, subst}
 use Rattle.std.specs.Result.{IfOk}
-use Rattle.rmx_media.specs.Units.{native}
-use Rattle.avc_units.specs.UnitList.{shown, AreShort}
-use Rattle.avc_units.proofs.ListLemmas.{nothing, native_more, native_end, short_first}
+use Rattle.avc_units.proofs.ListLemmas.{native_more, native_end, short_first}
 use Rattle.avc_units.proofs.print.native_bytes.Goals as goal
 
 pub append_sized-requires-clause-short : goal.append_sized-requires-clause-short

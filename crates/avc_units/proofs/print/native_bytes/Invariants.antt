@@ -1,4 +1,4 @@
-use Rattle.std.proofs.Common.{◌≡◌, ◌++◌, ◌≤◌, length, take, drop}
+use Rattle.std.proofs.Common.{◌≡◌, ◌++◌, drop}
 use Rattle.avc_units.specs.UnitList.{shown, AreShort}
 use Rattle.rmx_media.specs.Units.{native}
 use Rattle.avc_units.proofs.print.native_bytes.Given as goal

@@ -1,4 +1,4 @@
-use Rattle.std.proofs.Common.{◌≡◌, ◌++◌, ◌≤◌, length, take, drop}
+use Rattle.std.proofs.Common.{◌≡◌, length}
 use Rattle.avc_units.specs.Filled.{left_of}
 use Rattle.rmx_media.specs.Sets.{left_of as sets_left}
 use Rattle.avc_units.proofs.filled.Filled.take_set.Given as goal

@@ -1,4 +1,4 @@
-use Rattle.std.proofs.Common.{◌<◌, List, ℕ, subst, sym, arith}
+use Rattle.std.proofs.Common.{List, ℕ, subst, sym, arith}
 use Rattle.rmx_media.proofs.AvcLemmas.{length_size}
 use Rattle.rmx_media.specs.Units.{AreFilled}
 use Rattle.avc_units.specs.UnitList.{AreShort}

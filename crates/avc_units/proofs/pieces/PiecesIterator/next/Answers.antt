@@ -1,4 +1,4 @@
-use Rattle.std.proofs.Common.{◌≡◌, ◌<◌, length, ap, arith, lit<}
+use Rattle.std.proofs.Common.{◌≡◌, length, ap, arith, lit<}
 use Rattle.avc_units.specs.Pieces.{left_of}
 use Rattle.avc_units.specs.Placed.{left_of as placed_left}
 use Rattle.avc_units.proofs.PiecesLemmas.{start_given, none_left}

@@ -1,4 +1,4 @@
-use Rattle.std.proofs.Common.{◌≡◌, ◌++◌, List, ℕ, ap, ◌∙◌, sym}
+use Rattle.std.proofs.Common.{List, ℕ, ap, ◌∙◌}
 use Rattle.rmx_media.proofs.AvcLemmas.{length_size}
 use Rattle.std.proofs.Common.{Bool}
 use Rattle.std.specs.Prelude.{not}

@@ -1,4 +1,4 @@
-use Rattle.std.proofs.Common.{sym, ◌∙◌}
+use Rattle.std.proofs.Common.{◌∙◌}
 use Rattle.avc_units.specs.Filled.{left_of as sets_left}
 use Rattle.avc_units.specs.Units.{left_of as units_left}
 use Rattle.avc_units.proofs.ListLemmas.{unit_filled, skip_given, skip_other}

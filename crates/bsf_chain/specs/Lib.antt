@@ -1,3 +1,0 @@
-pub mod Apply
-pub mod Chain
-pub mod Parse
