@@ -12,7 +12,7 @@ use Rattle.flv_mux.specs.Sample.{IsSample}
 pub sample_fits : (m : MuxStreams) (stream : ℕ) (kind : Kind) (p : Packet) → kind_in m.streams.items stream ≡ Some kind → IsSample stream kind p → FitsLowered Flv m p
 sample_fits m stream kind p k s = record {
   all = record {
-    stream = ap (kind_in m.streams.items) s.stream ∙ k ∙ ap (λ (x : Kind). Some x) (sym s.kind);
+    stream = ap (kind_in m.streams.items) s.of_stream ∙ k ∙ ap (λ (x : Kind). Some x) (sym s.of_kind);
     config = s.config;
     payload = s.payload;
     size = let h = s.size in omega arith;

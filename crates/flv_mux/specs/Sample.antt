@@ -9,8 +9,8 @@ use Rattle.flv_mux.specs.Packets.{IsTimed}
 
 -- a short native packet of that stream and kind
 pub record IsSample (stream : ℕ) (kind : Kind) (p : Packet) : Type 0 where
-  pub stream : p.stream ≡ stream
-  pub kind : kind_of p.config ≡ kind
+  pub of_stream : p.stream ≡ stream
+  pub of_kind : kind_of p.config ≡ kind
   pub form : p.form ≡ Native
   pub config : IsAsRead p.config
   pub payload : IsPayload p.config p.form p.payload

@@ -3,6 +3,7 @@
 
 mod head;
 mod kinds;
+pub mod laws;
 pub mod mux;
 mod packet;
 mod tags;

@@ -130,13 +130,7 @@ fn both(alloc: Global) -> Result<MuxStreams, Fail>
     })
 }
 
-fn audio(
-    alloc: Global,
-    time: i64,
-    raw: [u8; 2],
-    version: u64,
-    byte: u8,
-) -> Result<Packet, Fail>
+fn audio(alloc: Global, time: i64, raw: [u8; 2], version: u64, byte: u8) -> Result<Packet, Fail>
     requires { IsTimed time time }
     ensures { IfOk result (λ p. IsSample 1 Audio p) }
 {
@@ -154,13 +148,7 @@ fn audio(
     })
 }
 
-fn video(
-    alloc: Global,
-    dts: i64,
-    pts: i64,
-    key: bool,
-    unit: [u8; 6],
-) -> Result<Packet, Fail>
+fn video(alloc: Global, dts: i64, pts: i64, key: bool, unit: [u8; 6]) -> Result<Packet, Fail>
     requires timed { IsTimed dts pts }
     requires valid { is_valid 4 unit ≡ true }
     ensures { IfOk result (λ p. IsSample 0 Video p) }
