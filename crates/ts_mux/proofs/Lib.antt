@@ -1,0 +1,13 @@
+pub mod CellLemmas
+pub mod EndLemmas
+pub mod FrontLemmas
+pub mod FrontPartLemmas
+pub mod HeadLemmas
+pub mod JoinedLemmas
+pub mod LawLemmas
+pub mod MuxLemmas
+pub mod PieceLemmas
+pub mod RunLemmas
+pub mod Steps
+pub mod TableLemmas
+pub mod UnitLemmas

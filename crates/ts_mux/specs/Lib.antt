@@ -1,0 +1,9 @@
+pub mod Cells
+pub mod File
+pub mod Laws
+pub mod TsMux
+pub mod Past
+pub mod Pes
+pub mod Sample
+pub mod Tables
+pub mod Times

@@ -1,0 +1,65 @@
+// What stands before the payload in a packet's first cell.
+ghost use Rattle.std.specs.Prelude.{◌≡◌, ◌≤◌, ◌+◌, ◌%◌, ◌==◌, ℕ, List, [], length, ◌++◌, slice_index, if◌then◌else◌};
+ghost use Rattle.std.specs.Ordering.{int_eq};
+ghost use Rattle.arrayvec.specs.ArrayVec.{array_vec_len};
+ghost use Rattle.rmx_media.specs.Config.{IsReadAac};
+ghost use Rattle.ts_mux.specs.Pes.{video_head, delimiter, delimited, audio_pes};
+ghost use Rattle.ts_mux.specs.Times.{IsTime};
+
+use crate::pes::{Front, append, head};
+use aac_adts::adts_head;
+use rmx_media::{AacConfig, Form, Packet};
+
+// Puts an access unit delimiter in front of a unit with this first byte, unless it is one.
+fn add_delimiter(front: &mut Front, first: u8)
+    requires { array_vec_len front.old ≤ 26 }
+    ensures items { front.new.items ≡ front.old.items ++ (if first % 32 == 9 then [] else delimiter) }
+    ensures len { array_vec_len front.new ≤ array_vec_len front.old + 6 }
+{
+    if first % 32 != 9 {
+        append(front, &[0, 0, 0, 1, 0x09, 0xF0]);
+    }
+}
+
+/// What stands before all but the first five bytes of a video packet's units, which begin with a start code.
+pub(crate) fn video_front(pts: i64, dts: i64, start: &[u8]) -> Front
+    requires pts { IsTime pts }
+    requires dts { IsTime dts }
+    requires start { length start.now ≡ 5 }
+    ensures items { (rest : List ℕ) → result.items ++ rest ≡ video_head pts dts ++ delimited (start.now ++ rest) }
+    ensures len { array_vec_len result ≤ 30 }
+{
+    let mut front = head(0xE0, 0, pts, dts);
+    add_delimiter(&mut front, start[4]);
+    append(&mut front, start);
+    front
+}
+
+// What follows the size in an audio packet's head: the flags and the times.
+fn size_of_times(pts: i64, dts: i64) -> u16
+    ensures { result ≡ (if int_eq pts dts then 8 else 13) }
+{
+    if pts == dts { 8 } else { 13 }
+}
+
+/// What stands before the payload of an audio packet.
+pub(crate) fn audio_front(packet: &Packet, config: &AacConfig) -> Front
+    requires pts { IsTime packet.now.pts }
+    requires dts { IsTime packet.now.dts }
+    requires size { length packet.now.payload ≤ 8191 }
+    requires native { packet.now.form ≡ Form.Native → length packet.now.payload ≤ 8184 }
+    requires config { IsReadAac config.now }
+    ensures items { result.items ++ packet.now.payload ≡ audio_pes config.now packet.now }
+    ensures len { array_vec_len result ≤ 26 }
+{
+    let after = size_of_times(packet.pts, packet.dts);
+    let size = packet.payload.len() as u16;
+    match packet.form {
+        Form::Native => {
+            let mut front = head(0xC0, after + 7 + size, packet.pts, packet.dts);
+            append(&mut front, &adts_head(config, u32::from(size)));
+            front
+        }
+        _ => head(0xC0, after + size, packet.pts, packet.dts),
+    }
+}
