@@ -76,6 +76,7 @@ fn heads(rt: HostRuntime) -> Result<(), Fail> {
 }
 
 #[test]
+#[tactic(auto, using(crate::proofs::Samples::sample_fits))]
 fn a_configuration_changes(rt: HostRuntime) -> Result<(), Fail> {
     let first = packet(rt.alloc(), FIRST, 0, 0x21)?;
     let second = packet(rt.alloc(), SECOND, 1, 0x22)?;

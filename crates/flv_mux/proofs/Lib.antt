@@ -1,5 +1,7 @@
 pub mod Ends
+pub mod Files
 pub mod Fitting
 pub mod History
 pub mod Pair
+pub mod Samples
 pub mod Stamps

@@ -1,3 +1,5 @@
 pub mod Flv
 pub mod FlvMux
+pub mod Laws
 pub mod Packets
+pub mod Sample

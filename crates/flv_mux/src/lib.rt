@@ -3,9 +3,13 @@
 
 mod head;
 mod kinds;
+pub mod laws;
 pub mod mux;
 mod packet;
 mod tags;
 mod track;
 
 pub use mux::FlvMux;
+
+#[cfg(test)]
+mod tests;

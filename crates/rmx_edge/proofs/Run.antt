@@ -3,7 +3,7 @@ use Rattle.std.proofs.Common.{◌≡◌, ℕ, ◌+◌, ◌≤◌, inl, inr, Bool
 use Rattle.std.specs.Prelude.{option_map}
 use Rattle.rmx_edge.specs.declared.shelf.ShelfFault.{ShelfFault}
 use Rattle.rmx_edge.specs.Count.{raised, Rose}
-use Rattle.rmx_edge.specs.Shelf.{ShelfTake, ShelfCall, ShelfState, Accepted, after, after_call, stays_open, size_of, size_in, total, with_call, accepted_by, IsLeftBy, TakesAfter, Makes}
+use Rattle.rmx_edge.specs.Shelf.{ShelfTake, ShelfCall, ShelfState, Accepted, after, after_call, stays_open, size_of, total, with_call, accepted_by, IsLeftBy, TakesAfter, Makes}
 use Rattle.rmx_edge.specs.Run.{writing_after, bytes_of, AreLeftBy, Stopped, Completed, CompletedOrStopped, Runs}
 
 pub after-append : (xs ys : List ShelfCall) (takes : List ShelfTake) → after (xs ++ ys) takes ≡ after ys (after xs takes)

@@ -1,5 +1,5 @@
 -- Runs that write pieces, one run after another.
-use Rattle.std.proofs.Common.{◌≡◌, ℕ, List, [], ◌∷◌, ◌++◌, sym, subst, Result, Ok, Err}
+use Rattle.std.proofs.Common.{ℕ, List, [], ◌∷◌, ◌++◌, sym, subst, Result, Ok, Err}
 use Rattle.rmx_edge.specs.declared.shelf.ShelfFault.{ShelfFault}
 use Rattle.rmx_edge.specs.Shelf.{ShelfCall, ShelfState}
 use Rattle.rmx_edge.specs.Pieces.{writes}

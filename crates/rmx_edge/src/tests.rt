@@ -8,8 +8,8 @@ use std::os::unix::fs::symlink;
 use std::test::Fail;
 
 #[test]
-fn a_file_is_written_and_read(rt: HostRuntime) -> Result<(), Fail> {
-    let mut claims = claims(rt.alloc(), 2)?;
+fn a_file_is_written(rt: HostRuntime) -> Result<(), Fail> {
+    let mut claims = claims(rt.alloc(), 1)?;
     let claim = claims.pop().ok_or("a claim")?;
     let mut shelf = Counted::new(DirShelf::new(rt.alloc(), rt.clone()?, claim));
     let created = shelf.create("a.bin");
@@ -26,19 +26,30 @@ fn a_file_is_written_and_read(rt: HostRuntime) -> Result<(), Fail> {
     assert_eq!(rt; closed, Ok(()));
     assert_eq!(rt; shelf.bytes(), 5);
     assert!(rt; shelf.into_inner().last_error().is_none());
+    let text = fs::read_to_string(&rt, "a.bin")?;
+    assert_eq!(rt; text.as_str(), "abcde");
+    fs::remove_file(&rt, "a.bin")?;
+    Ok(())
+}
+
+#[test]
+fn a_file_is_read(rt: HostRuntime) -> Result<(), Fail> {
+    fs::write(&rt, "b.bin", "abc")?;
+    let mut claims = claims(rt.alloc(), 1)?;
     let claim = claims.pop().ok_or("a claim")?;
     let mut inputs = FileInputs::new(rt.clone()?, claim);
-    let opened = inputs.open_input("a.bin");
+    let opened = inputs.open_input("b.bin");
     assert_eq!(rt; opened, Ok(()));
-    let mut buf = [0u8; 16];
+    let mut buf = [0u8; 4];
     let count = inputs.read(&mut buf);
-    assert_eq!(rt; count, Ok(5));
-    assert_eq!(rt; &buf[..5], b"abcde".as_slice());
+    assert_eq!(rt; count, Ok(3));
+    assert_eq!(rt; &buf[..3], b"abc".as_slice());
     let end = inputs.read(&mut buf);
     assert_eq!(rt; end, Ok(0));
-    let missing = inputs.open_input("b.bin");
+    let missing = inputs.open_input("c.bin");
     assert!(rt; missing.is_err());
     assert!(rt; inputs.last_error().is_some());
+    fs::remove_file(&rt, "b.bin")?;
     Ok(())
 }
 
@@ -69,6 +80,9 @@ fn what_a_run_has_open_is_safe(rt: HostRuntime) -> Result<(), Fail> {
     assert_eq!(rt; closed, Ok(()));
     let created = second.create("out.bin");
     assert_eq!(rt; created, Ok(()));
+    for name in ["in.bin", "link.bin", "out.bin"] {
+        fs::remove_file(&rt, name)?;
+    }
     Ok(())
 }
 

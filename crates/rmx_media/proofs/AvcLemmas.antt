@@ -1,12 +1,11 @@
 -- The configuration of an AVC stream.
-use Rattle.std.proofs.Common.{◌≡◌, ℕ, zero, suc, ◌+◌, ◌-◌, ◌%◌, ◌<◌, ◌≤◌, Bool, true, false, List, [], ◌∷◌, ◌++◌, length, take, drop, refl, sym, ap, ◌∙◌, arith, Option, None, Some, Ok, Err, Result, subst, get_or}
+use Rattle.std.proofs.Common.{◌≡◌, ℕ, suc, ◌+◌, ◌%◌, ◌<◌, ◌≤◌, Bool, true, false, List, length, take, drop, refl, sym, ap, ◌∙◌, arith, Option, None, Some, Ok, Err}
 use Rattle.std.specs.Prelude.{nat_lt, is_some, slice_index, if◌then◌else◌, ◌==◌, not}
 use Rattle.std.proofs.lemmas.Bool.Decides.{nat_tests}
-use Rattle.rmx_media.specs.declared.config.ConfigFault.{ConfigFault}
 use Rattle.rmx_media.specs.declared.config.ConfigFault.TheVariants.{Short, Version}
 use Rattle.rmx_media.specs.declared.avc.AvcConfig.{AvcConfig}
 use Rattle.rmx_media.specs.Bits.{number_of}
-use Rattle.rmx_media.specs.Avc.{Run, run_of, with_set, rest_alone, sets_after, sets_in, read_as, avc_config, sets_left}
+use Rattle.rmx_media.specs.Avc.{Run, run_of, with_set, rest_alone, sets_in, read_as, avc_config, sets_left}
 
 not_short : (m n : ℕ) → nat_lt m n ≡ false → n ≤ m
 not_short m n h = grind (arith, nat_tests)
@@ -27,7 +26,7 @@ pub rest_more : (m n : ℕ) (bytes : List ℕ) → m ≡ suc n → 2 + number_of
 rest_more m n bytes e h =
     ap (λ k. rest_alone (run_of k bytes)) e
     ∙ ap (λ (t : Bool). rest_alone (if t then None else with_set (take (number_of (take 2 bytes)) (drop 2 bytes)) (run_of n (drop (2 + number_of (take 2 bytes)) bytes))))
-        (is_long (length bytes) (2 + number_of (take 2 bytes)) h)
+    (is_long (length bytes) (2 + number_of (take 2 bytes)) h)
     ∙ rest_with (take (number_of (take 2 bytes)) (drop 2 bytes)) (run_of n (drop (2 + number_of (take 2 bytes)) bytes))
 
 -- a set that is cut off
@@ -35,7 +34,7 @@ pub rest_cut : (m n : ℕ) (bytes : List ℕ) → m ≡ suc n → length bytes <
 rest_cut m n bytes e h =
     ap (λ k. rest_alone (run_of k bytes)) e
     ∙ ap (λ (t : Bool). rest_alone (if t then None else with_set (take (number_of (take 2 bytes)) (drop 2 bytes)) (run_of n (drop (2 + number_of (take 2 bytes)) bytes))))
-        (is_short (length bytes) (2 + number_of (take 2 bytes)) h)
+    (is_short (length bytes) (2 + number_of (take 2 bytes)) h)
 
 pub rest_none : (m : ℕ) (bytes : List ℕ) → m ≡ 0 → rest_alone (run_of m bytes) ≡ Some bytes
 rest_none m bytes e = ap (λ k. rest_alone (run_of k bytes)) e
@@ -57,7 +56,7 @@ pub read : (config : AvcConfig) → avc_config config.raw ≡ Ok config → Read
 unfolding avc_config
 read config h =
     let facts : (is_some (sets_in config.raw) ≡ true) × (slice_index config.raw 4 % 4 + 1 ≡ config.length_size) =
-        read_by (nat_lt (length config.raw) 1) (not (slice_index config.raw 0 == 1)) config.raw (sets_in config.raw) config h in
+    read_by (nat_lt (length config.raw) 1) (not (slice_index config.raw 0 == 1)) config.raw (sets_in config.raw) config h in
     record { sets = facts.0; size = sym facts.1 }
 
 -- the size of length fields is from 1 to 4
@@ -80,6 +79,6 @@ pub whole : (raw : List ℕ) → is_some (sets_in raw) ≡ true → Whole raw
 unfolding sets_in
 whole raw h =
     let by : (nat_lt (length raw) 6 ≡ false) × (is_some (sets_left false (slice_index raw 5 % 32) (drop 6 raw)) ≡ true)
-            × ((if nat_lt (length raw) 6 then None else sets_left false (slice_index raw 5 % 32) (drop 6 raw)) ≡ sets_left false (slice_index raw 5 % 32) (drop 6 raw)) =
-        whole_by (nat_lt (length raw) 6) (sets_left false (slice_index raw 5 % 32) (drop 6 raw)) h in
+    × ((if nat_lt (length raw) 6 then None else sets_left false (slice_index raw 5 % 32) (drop 6 raw)) ≡ sets_left false (slice_index raw 5 % 32) (drop 6 raw)) =
+    whole_by (nat_lt (length raw) 6) (sets_left false (slice_index raw 5 % 32) (drop 6 raw)) h in
     record { long = not_short (length raw) 6 by.0; sets = by.1; same = by.2 }

@@ -1,15 +1,15 @@
 -- Parameter sets, one after another.
-use Rattle.std.proofs.Common.{◌≡◌, ℕ, zero, suc, ◌+◌, ◌-◌, ◌%◌, ◌<◌, ◌≤◌, Bool, true, false, List, [], ◌∷◌, ◌++◌, length, take, drop, refl, sym, ap, ◌∙◌, arith, Option, None, Some, subst}
+use Rattle.std.proofs.Common.{◌≡◌, ℕ, suc, ◌+◌, ◌≤◌, Bool, true, false, List, [], ◌∷◌, length, take, drop, refl, arith, Option, None, Some}
 use Rattle.std.specs.Prelude.{nat_lt, is_some, slice_index, if◌then◌else◌}
 use Rattle.std.proofs.lemmas.Bool.Decides.{nat_tests}
 use Rattle.rmx_media.specs.Bits.{number_of}
-use Rattle.rmx_media.specs.Avc.{Run, run_of, with_set, sets_after, with_sets, left_by, sets_left, some_sets, sets_alone, rest_alone}
+use Rattle.rmx_media.specs.Avc.{Run, run_of, with_set, with_sets, left_by, sets_left, some_sets, sets_alone}
 
 -- a set that is there
 pub record First (last : Bool) (count : ℕ) (bytes : List ℕ) : Type 0 where
   pub whole : 2 + number_of (take 2 bytes) ≤ length bytes
   pub sets : some_sets (sets_left last (suc count) bytes)
-    ≡ take (number_of (take 2 bytes)) (drop 2 bytes) ∷ some_sets (sets_left last count (drop (2 + number_of (take 2 bytes)) bytes))
+      ≡ take (number_of (take 2 bytes)) (drop 2 bytes) ∷ some_sets (sets_left last count (drop (2 + number_of (take 2 bytes)) bytes))
   pub more : is_some (sets_left last count (drop (2 + number_of (take 2 bytes)) bytes)) ≡ true
 
 record Fronted (set : List ℕ) (all rest : Option (List (List ℕ))) : Type 0 where
@@ -46,7 +46,7 @@ not_short m n h = grind (arith, nat_tests)
 pub first : (last : Bool) (count : ℕ) (bytes : List ℕ) → is_some (sets_left last (suc count) bytes) ≡ true → First last count bytes
 first last count bytes h =
     let p : Passed last (nat_lt (length bytes) (2 + number_of (take 2 bytes))) (take (number_of (take 2 bytes)) (drop 2 bytes))
-            (run_of count (drop (2 + number_of (take 2 bytes)) bytes)) = passed last _ _ _ h in
+    (run_of count (drop (2 + number_of (take 2 bytes)) bytes)) = passed last _ _ _ h in
     record { whole = not_short (length bytes) (2 + number_of (take 2 bytes)) p.test; sets = p.front.sets; more = p.front.more }
 
 -- where no sequence parameter set is left, a byte counts the picture parameter sets

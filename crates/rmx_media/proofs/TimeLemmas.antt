@@ -37,9 +37,10 @@ unique false m c (pos k) c0 h =
     let near : 2 * unsigned_abs (pos m -ℤ pos (k * c)) ≤ c = h.near in
     let low : 2 * (k * c) ≤ 2 * m + c = omega (arith, ints, apart (pos m) (pos (k * c))) in
     let high : 2 * m < 2 * (k * c) + c =
-        elim (tie (2 * unsigned_abs (pos m -ℤ pos (k * c))) c m (k * c) near h.away) [
-            inl less ↦ omega (arith, ints, apart (pos m) (pos (k * c)))
-          | inr less ↦ omega (arith, ints, apart (pos m) (pos (k * c))) ] in
+    elim (tie (2 * unsigned_abs (pos m -ℤ pos (k * c))) c m (k * c) near h.away) [
+      | inl less ↦ omega (arith, ints, apart (pos m) (pos (k * c)))
+      | inr less ↦ omega (arith, ints, apart (pos m) (pos (k * c)))
+    ] in
     ap pos (quotient m c k low high)
 unique false m c (negsuc k) c0 h =
     let near : 2 * unsigned_abs (pos m -ℤ neg_ℤ (pos (suc k * c))) ≤ c = h.near in
@@ -49,9 +50,10 @@ unique true m c (pos zero) c0 h =
     let near : 2 * unsigned_abs (neg_ℤ (pos m) -ℤ pos (zero * c)) ≤ c = h.near in
     let none : zero * c ≡ 0 = omega arith in
     let less : 2 * m < c =
-        elim (tie (2 * unsigned_abs (neg_ℤ (pos m) -ℤ pos (zero * c))) c (unsigned_abs (neg_ℤ (pos m))) (zero * c) near h.away) [
-            inl less ↦ omega (arith, ints, apart (neg_ℤ (pos m)) (pos (zero * c)), neg_is (pos m))
-          | inr less ↦ absurd (omega arith) ] in
+    elim (tie (2 * unsigned_abs (neg_ℤ (pos m) -ℤ pos (zero * c))) c (unsigned_abs (neg_ℤ (pos m))) (zero * c) near h.away) [
+      | inl less ↦ omega (arith, ints, apart (neg_ℤ (pos m)) (pos (zero * c)), neg_is (pos m))
+      | inr less ↦ absurd (omega arith)
+    ] in
     ap (λ n. neg_ℤ (pos n)) (quotient m c zero (omega arith) (omega arith))
 unique true m c (pos (suc k)) c0 h =
     let near : 2 * unsigned_abs (neg_ℤ (pos m) -ℤ pos (suc k * c)) ≤ c = h.near in
@@ -62,9 +64,10 @@ unique true m c (negsuc k) c0 h =
     let size : unsigned_abs (neg_ℤ (pos m)) ≡ m = omega (arith, ints, neg_is (pos m)) in
     let low : 2 * (suc k * c) ≤ 2 * m + c = omega (arith, ints, apart (neg_ℤ (pos m)) (neg_ℤ (pos (suc k * c))), neg_is (pos m), neg_is (pos (suc k * c))) in
     let high : 2 * m < 2 * (suc k * c) + c =
-        elim (tie (2 * unsigned_abs (neg_ℤ (pos m) -ℤ neg_ℤ (pos (suc k * c)))) c (unsigned_abs (neg_ℤ (pos m))) (suc k * c) near h.away) [
-            inl less ↦ omega (arith, ints, apart (neg_ℤ (pos m)) (neg_ℤ (pos (suc k * c))), neg_is (pos m), neg_is (pos (suc k * c)))
-          | inr less ↦ omega (arith, ints, apart (neg_ℤ (pos m)) (neg_ℤ (pos (suc k * c))), neg_is (pos m), neg_is (pos (suc k * c))) ] in
+    elim (tie (2 * unsigned_abs (neg_ℤ (pos m) -ℤ neg_ℤ (pos (suc k * c)))) c (unsigned_abs (neg_ℤ (pos m))) (suc k * c) near h.away) [
+      | inl less ↦ omega (arith, ints, apart (neg_ℤ (pos m)) (neg_ℤ (pos (suc k * c))), neg_is (pos m), neg_is (pos (suc k * c)))
+      | inr less ↦ omega (arith, ints, apart (neg_ℤ (pos m)) (neg_ℤ (pos (suc k * c))), neg_is (pos m), neg_is (pos (suc k * c)))
+    ] in
     ap (λ n. neg_ℤ (pos n)) (quotient m c (suc k) low high)
 
 not_less : (a : ℕ) → int_lt (pos a) (pos 0) ≡ false
@@ -84,7 +87,7 @@ none_left None a x b c n e c0 v h = λ q near fits.
     let negative : Bool = int_lt a (pos 0) in
     let m : ℕ = unsigned_abs a * b in
     let is : with_sign negative ((2 * m + c) / (2 * c)) ≡ q =
-        unique negative m c q c0 (subst (λ (p : ℤ). IsNearest p c q) (product_of a b) near) in
+    unique negative m c q c0 (subst (λ (p : ℤ). IsNearest p c q) (product_of a b) near) in
     let there : with_sign (int_lt x (pos 0)) n ≡ q =
-        ap (λ (y : ℤ). with_sign (int_lt y (pos 0)) n) e ∙ ap (with_sign negative) v ∙ is in
+    ap (λ (y : ℤ). with_sign (int_lt y (pos 0)) n) e ∙ ap (with_sign negative) v ∙ is in
     h (subst (FitsSigned w64) (sym there) fits)

@@ -45,7 +45,9 @@ impl AvcConfig {
 /// before the parameter sets do.
 #[tactic(auto, unfolding(crate::specs::Avc::avc_config))]
 pub fn read_avc_config(raw: Bytes) -> Result<AvcConfig, ConfigFault>
-    ensures { result ≡ avc_config raw }
+    ensures value { result ≡ avc_config raw }
+    // So it is a configuration as the other calls want one, where it came out of a tag.
+    ensures as_read { length raw ≤ 16777210 → IfOk result IsReadAvc }
 {
     let bytes = raw.as_slice();
     if bytes.is_empty() {

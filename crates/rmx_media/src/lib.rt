@@ -9,6 +9,8 @@ pub mod memory;
 pub mod packet;
 pub mod sets;
 pub mod streams;
+#[cfg(test)]
+mod tests;
 pub mod text;
 pub mod time;
 

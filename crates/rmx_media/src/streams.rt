@@ -13,6 +13,7 @@ pub enum Kind {
     Audio,
 }
 
+/// A stream's kind and configuration.
 #[derive(Drop)]
 pub struct StreamInfo {
     pub kind: Kind,
@@ -34,6 +35,7 @@ impl StreamInfo {
     }
 }
 
+/// A stream of an output, with the number that its packets carry.
 #[derive(Drop)]
 pub struct MuxStream {
     pub stream: u32,
@@ -41,6 +43,7 @@ pub struct MuxStream {
 }
 
 impl MuxStream {
+    /// An equal value, which shares the bytes.
     pub fn copy(&self) -> Result<MuxStream, NoMemory>
         ensures { IfOk result (λ s. s ≡ self.now) }
     {
@@ -54,6 +57,7 @@ impl MuxStream {
     }
 }
 
+/// The streams of an output, and the script that an FLV file begins with, if there is one.
 #[derive(Drop)]
 pub struct MuxStreams {
     pub streams: Items<MuxStream>,
@@ -61,6 +65,7 @@ pub struct MuxStreams {
 }
 
 impl MuxStreams {
+    /// The same streams and script, which share the bytes.
     pub fn copy(&self, alloc: Global) -> Result<MuxStreams, NoMemory>
         ensures { IfOk result (IsEqual self.now) }
     {

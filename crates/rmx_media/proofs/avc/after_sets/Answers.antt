@@ -1,4 +1,4 @@
-use Rattle.std.proofs.Common.{◌≡◌, ℕ, suc, ◌+◌, ◌-◌, ◌<◌, ◌≤◌, List, length, take, drop, length-drop, arith, sym, ap, ◌∙◌}
+use Rattle.std.proofs.Common.{◌≡◌, ℕ, ◌+◌, ◌-◌, ◌<◌, ◌≤◌, List, length, take, drop, length-drop, arith, sym, ap, ◌∙◌}
 use Rattle.std.proofs.lemmas.List.{drop-drop}
 use Rattle.rmx_media.specs.Bits.{number_of}
 use Rattle.rmx_media.specs.Avc.{run_of, rest_alone}
@@ -21,10 +21,10 @@ loop-preserved c =
     let body : length c.split_at.result.1.now ≡ length c.loop.rest.now - 2 = ap length c.split_at.ensures.back ∙ length-drop 2 c.loop.rest.now in
     let long : 2 + number_of (take 2 c.loop.rest.now) ≤ length c.loop.rest.now = omega arith in
     let rest : c.split_at-in-loop.result.1.now ≡ drop (2 + number_of (take 2 c.loop.rest.now)) c.loop.rest.now =
-        c.split_at-in-loop.ensures.back
-        ∙ ap (λ (n : ℕ). drop n c.split_at.result.1.now) size
-        ∙ ap (drop (number_of (take 2 c.loop.rest.now))) c.split_at.ensures.back
-        ∙ drop-drop (number_of (take 2 c.loop.rest.now)) 2 c.loop.rest.now in
+    c.split_at-in-loop.ensures.back
+    ∙ ap (λ (n : ℕ). drop n c.split_at.result.1.now) size
+    ∙ ap (drop (number_of (take 2 c.loop.rest.now))) c.split_at.ensures.back
+    ∙ drop-drop (number_of (take 2 c.loop.rest.now)) 2 c.loop.rest.now in
     c.loop.invariant
     ∙ rest_more (c.args.count - c.loop.counter) (c.args.count - (c.loop.counter + 1)) c.loop.rest.now (omega arith) long
     ∙ ap (λ (r : List ℕ). rest_alone (run_of (c.args.count - (c.loop.counter + 1)) r)) (sym rest)

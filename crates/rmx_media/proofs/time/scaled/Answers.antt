@@ -1,5 +1,5 @@
-use Rattle.std.proofs.Common.{◌≡◌, ℕ, ◌*◌, ◌^◌, ◌-◌, ◌≤◌, ap, ◌∙◌, arith, rules, lit<}
-use Rattle.std.specs.Prelude.{ℤ, pos, ◌*ℤ◌, FitsSigned, unsigned_abs}
+use Rattle.std.proofs.Common.{◌≡◌, ◌^◌, ◌-◌, ◌≤◌, ap, ◌∙◌, arith, rules, lit<}
+use Rattle.std.specs.Prelude.{pos, ◌*ℤ◌, FitsSigned, unsigned_abs}
 use Rattle.std.specs.Int.{w64, w128}
 use Rattle.std.proofs.lemmas.Int.{to_z-of_z, fits_signed_mul, ints}
 use mir.Val.{to_z, of_z}
@@ -16,5 +16,5 @@ returns c =
     let size : unsigned_abs c.args.a ≤ 2 ^ 63 = omega (arith, ints) in
     let whole : to_z w128 (of_z w128 c.from.result) *ℤ to_z w128 (of_z w128 c.from-2.result) ≡ c.args.a *ℤ pos c.args.factor = cc (c.from.ensures, c.from-2.ensures) in
     let fits : FitsSigned w128 (c.args.a *ℤ pos c.args.factor) =
-        fits_signed_mul w128 c.args.a (pos c.args.factor) (2 ^ 63) (2 ^ 64 - 1) size (omega arith) (lit< tt) in
+    fits_signed_mul w128 c.args.a (pos c.args.factor) (2 ^ 63) (2 ^ 64 - 1) size (omega arith) (lit< tt) in
     ap (λ z. to_z w128 (of_z w128 z)) whole ∙ to_z-of_z w128 (c.args.a *ℤ pos c.args.factor) fits

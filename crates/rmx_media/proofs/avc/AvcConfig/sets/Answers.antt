@@ -1,8 +1,8 @@
-use Rattle.std.proofs.Common.{◌≡◌, ℕ, ◌%◌, ◌≤◌, List, length, take, drop, get_or, true, false, Bool, arith, sym, ap, ◌∙◌, lit<}
+use Rattle.std.proofs.Common.{◌≡◌, ℕ, ◌%◌, List, length, take, drop, get_or, false, arith, sym, ap, ◌∙◌, lit<}
 use Rattle.std.specs.Prelude.{is_some, slice_index}
 use Rattle.std.proofs.lemmas.List.{get_or-take}
 use Rattle.rmx_media.specs.Avc.{sets_left, some_sets, all_sets}
-use Rattle.rmx_media.proofs.AvcLemmas.{read, Read, whole, Whole}
+use Rattle.rmx_media.proofs.AvcLemmas.{read, whole, Whole}
 use Rattle.rmx_media.proofs.avc.AvcConfig.sets.Goals as goal
 
 pub split_at-requires : goal.split_at-requires
@@ -19,7 +19,7 @@ of-requires c =
     let w : Whole c.args.self.now.raw = whole c.args.self.now.raw (read c.args.self.now c.requires.read).sets in
     ap (λ (x : List ℕ). is_some (sets_left false (slice_index c.split_at.result.0.now 5 % 32) x)) (c.split_at.ensures.back ∙ ap (drop 6) c.as_slice.ensures)
     ∙ ap (λ (n : ℕ). is_some (sets_left false (n % 32) (drop 6 c.args.self.now.raw)))
-        (sixth c.args.self.now.raw c.as_slice.result.now c.split_at.result.0.now c.as_slice.ensures c.split_at.ensures.front)
+    (sixth c.args.self.now.raw c.as_slice.result.now c.split_at.result.0.now c.as_slice.ensures c.split_at.ensures.front)
     ∙ w.sets
 
 pub returns : goal.returns
@@ -29,5 +29,5 @@ returns c =
     c.of.ensures
     ∙ ap (λ (x : List ℕ). some_sets (sets_left false (slice_index c.split_at.result.0.now 5 % 32) x)) (c.split_at.ensures.back ∙ ap (drop 6) c.as_slice.ensures)
     ∙ ap (λ (n : ℕ). some_sets (sets_left false (n % 32) (drop 6 c.args.self.now.raw)))
-        (sixth c.args.self.now.raw c.as_slice.result.now c.split_at.result.0.now c.as_slice.ensures c.split_at.ensures.front)
+    (sixth c.args.self.now.raw c.as_slice.result.now c.split_at.result.0.now c.as_slice.ensures c.split_at.ensures.front)
     ∙ ap some_sets (sym w.same)
