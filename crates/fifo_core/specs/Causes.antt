@@ -26,6 +26,14 @@ PutFailed (Tried s j facts b ∷ h) i = (j ≡ i) × (b ≡ answer.Fault) × (s 
 PutFailed (Fated j f ∷ h) i = ⊥
 PutFailed (Want ∷ h) i = ⊥
 
+-- since the last fate no other packet was tried
+abbrev pub OnlyTried : History → ℕ → Type 0
+OnlyTried [] i = Unit {0}
+OnlyTried (Begun b ∷ h) i = Unit {0}
+OnlyTried (Tried s j facts b ∷ h) i = (j ≡ i) × OnlyTried h i
+OnlyTried (Fated j f ∷ h) i = Unit {0}
+OnlyTried (Want ∷ h) i = OnlyTried h i
+
 -- The cause of a fate, in the history before it. For the packet i that came:
 abbrev pub Cause : FifoOptions → History → ℕ → PacketFacts → Fate → Type 0
 -- it was written in session s, and where restart is asked it may stand first or stands right behind the one before it
@@ -34,11 +42,12 @@ Cause o h i facts (fate.Written s) =
     × (o.restart ≡ true → (facts.restart ≡ true) ⊎ (i ≡ 0) ⊎ (is_written h (i - 1) s ≡ true))
 -- it may not stand first, and the one before it wasn't written, or its own write in the open session failed
 Cause o h i facts fate.KeyWait =
-    (wanted h ≡ false) × (o.restart ≡ true) × (facts.restart ≡ false) × (i ≢ 0)
+    (wanted h ≡ false) × (mode_is_dead (mode_of o h) ≡ false) × (o.restart ≡ true) × (facts.restart ≡ false) × (i ≢ 0)
     × (((s : ℕ) → is_written h (i - 1) s ≡ false) ⊎ PutFailed h i)
 -- fault f is the last, and it hit this packet, or the wait for the next try is on
 Cause o h i facts (fate.Lost f) =
-    (wanted h ≡ false) × (f + 1 ≡ notes h) × (TriedLast h i answer.Fault ⊎ (is_waiting o h facts ≡ true))
+    (wanted h ≡ false) × (f + 1 ≡ notes h)
+    × (TriedLast h i answer.Fault ⊎ ((mode_is_dead (mode_of o h) ≡ false) × (o.attempt_recovery ≡ true) × (is_waiting o h facts ≡ true)))
 -- the output was given up at fault f
 Cause o h i facts (fate.AfterFailure f) = (wanted h ≡ false) × (mode_of o h ≡ Dead f)
 Cause o h i facts fate.NoMemory = wanted h ≡ true
@@ -73,12 +82,12 @@ abbrev pub InTurn : ℕ → List Turn → Type 0
 InTurn n [] = Unit {0}
 InTurn n (t ∷ ts) = (n ≤ turn_index t) × InTurn (turn_index t + 1) ts
 
--- each fate has its cause in what came before it, and no packet is tried once the output was given up
+-- each fate has its cause in what came before it, no packet is tried once the output was given up, and session 0's begin comes first
 abbrev pub Caused : FifoOptions → List Turn → History → Type 0
 Caused o ts [] = Unit {0}
-Caused o ts (Begun a ∷ h) = Caused o ts h
+Caused o ts (Begun a ∷ h) = h ≡ []
 Caused o ts (Tried s i facts a ∷ h) = (HasTurn ts (Comes i facts) × (s ≡ trying o h) × (mode_is_dead (mode_of o h) ≡ false)) × Caused o ts h
-Caused o ts (Fated i f ∷ h) = ((t : Turn) × HasTurn ts t × TurnCause o h i t f) × Caused o ts h
+Caused o ts (Fated i f ∷ h) = ((t : Turn) × HasTurn ts t × TurnCause o h i t f × OnlyTried h i) × Caused o ts h
 Caused o ts (Want ∷ h) = Caused o ts h
 
 abbrev pub EachFateIsCaused : Type 0

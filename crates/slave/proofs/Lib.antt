@@ -1,0 +1,12 @@
+pub mod Accounted
+pub mod Begin
+pub mod CallsLemmas
+pub mod Faultless
+pub mod Finish
+pub mod Lists
+pub mod Room
+pub mod Past
+pub mod Rows
+pub mod Start
+pub mod Steps
+pub mod Turns

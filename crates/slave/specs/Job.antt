@@ -1,0 +1,186 @@
+-- What clauses see of an output's job, and what each step does to it.
+use Rattle.std.specs.Prelude.{◌≡◌, ℕ, ◌+◌, ◌≤◌, ◌⊎◌, Bool, true, false, List, [], ◌∷◌, ◌++◌, length, Option, Some, string_bytes}
+use Rattle.fifo_core.specs.declared.types.Answer.{Answer}
+use Rattle.fifo_core.specs.declared.types.Answer.TheVariants as answer
+use Rattle.fifo_core.specs.declared.types.Fate.{Fate}
+use Rattle.fifo_core.specs.declared.state.FifoState.{FifoState}
+use Rattle.fifo_core.specs.State.{session_in}
+use Rattle.rmx_edge.specs.Count.{Rose}
+use Rattle.rmx_edge.specs.Shelf.{ShelfState, ShelfCall}
+use Rattle.rmx_edge.specs.Counted.{with_count}
+use Rattle.rmx_edge.specs.declared.shelf.Shelf.{Ghosts}
+use Rattle.rmx_edge.specs.Run.{Completed, Stopped}
+use Rattle.rmx_media.specs.declared.packet.Packet.{Packet}
+use Rattle.slave.specs.declared.mux.Mux.{Mux}
+use Rattle.slave.specs.Origin.{Origin, video_of}
+use Rattle.slave.specs.Calls.{begin_calls, put_calls, end_calls, IsMuxOf, MuxAfter}
+use Rattle.slave.specs.declared.records.Run.{Run}
+use Rattle.slave.specs.declared.records.SessionNote.{SessionNote}
+use Rattle.slave.specs.declared.records.FaultAt.{FaultAt}
+use Rattle.slave.specs.declared.records.FaultNote.{FaultNote}
+use Rattle.slave.specs.declared.records.FaultAt.TheVariants.{Begin, End}
+use Rattle.slave.specs.Runs.{expand, Joins, AreInOrder}
+use Rattle.slave.specs.declared.job.SlaveJob.{SlaveJob}
+
+-- what a job keeps of what it was made of
+pub record Kit : Type 0 where
+  pub name : List ℕ
+  pub video : Option ℕ
+  pub mux : Mux
+
+-- it is that of this output
+pub record KitOf (g : Origin) (k : Kit) : Type 0 where
+  pub name : k.name ≡ g.name
+  pub short : length g.name ≤ 200
+  -- its shelf counts bytes from 0
+  pub counts : g.shelf.accepted ≡ Some (record { before = 0; last = 0 })
+  pub video : k.video ≡ video_of g.streams.streams.items
+  pub mux : IsMuxOf g k.mux
+
+pub record JobView : Type 0 where
+  pub shelf : ShelfState
+  pub kit : Kit
+  pub fifo : FifoState
+  pub runs : List Run
+  pub run_places : ℕ
+  pub sessions : List SessionNote
+  pub session_places : ℕ
+  pub faults : List FaultNote
+  pub fault_places : ℕ
+
+abbrev pub view_of : {S : Type 0} {ghosts : Ghosts S} → (S → ShelfState) → SlaveJob S ghosts → JobView
+view_of state job = record {
+  shelf = with_count (state job.shelf.shelf) job.shelf.before job.shelf.last;
+  kit = record { name = string_bytes job.name; video = job.video; mux = job.mux };
+  fifo = job.fifo;
+  runs = job.runs.items;
+  run_places = job.runs.spare;
+  sessions = job.sessions.items;
+  session_places = job.sessions.spare;
+  faults = job.faults.items;
+  fault_places = job.faults.spare;
+}
+
+-- the note of a fault
+abbrev pub note_at : JobView → FaultAt → JobView → FaultNote
+note_at old at new = record { session = session_in old.fifo; at = at; before = old.shelf.faults; after = new.shelf.faults }
+
+-- what the calls did to the shelf and the notes, by the answer
+abbrev pub CallsMade : List ShelfCall → FaultAt → Bool → JobView → Answer → JobView → Type 0
+CallsMade calls at writing old answer.Done new =
+    Completed calls old.shelf new.shelf × (new.shelf.writing ≡ writing)
+    × (new.faults ≡ old.faults) × (new.fault_places ≡ old.fault_places)
+CallsMade calls at writing old answer.Fault new =
+    Stopped calls 0 old.shelf new.shelf × (new.shelf.writing ≡ false)
+    × (new.faults ≡ old.faults ++ note_at old at new ∷ []) × (new.fault_places + 1 ≡ old.fault_places) × Rose old.shelf.faults new.shelf.faults
+CallsMade calls at writing old answer.NoMemory new =
+    Stopped calls 0 old.shelf new.shelf × (new.shelf.writing ≡ false)
+    × (new.faults ≡ old.faults) × (new.fault_places ≡ old.fault_places) × Rose old.shelf.wants new.shelf.wants
+
+-- a muxer's call was made, and a fault of it noted
+pub record Calls (g : Origin) (calls : List ShelfCall) (at : FaultAt) (old : JobView) (a : Answer) (new : JobView) : Type 0 where
+  pub made : CallsMade calls at true old a new
+  pub counts : old.shelf.faults ≤ new.shelf.faults
+  pub want_counts : old.shelf.wants ≤ new.shelf.wants
+  pub kit : KitOf g new.kit
+  pub fifo : new.fifo ≡ old.fifo
+  pub runs : new.runs ≡ old.runs
+  pub run_places : new.run_places ≡ old.run_places
+  pub sessions : new.sessions ≡ old.sessions
+  pub session_places : new.session_places ≡ old.session_places
+
+-- a packet was given to the muxer, behind those before it in the file
+pub record Puts (g : Origin) (before : List Packet) (p : Packet) (at : FaultAt) (old : JobView) (a : Answer) (new : JobView) : Type 0 where
+  pub calls : Calls g (put_calls g before p) at old a new
+  pub mux : a ≡ answer.Done → MuxAfter g (before ++ p ∷ []) new.kit.mux
+
+abbrev pub is_done : Answer → Bool
+is_done answer.Done = true
+is_done answer.Fault = false
+is_done answer.NoMemory = false
+
+abbrev pub is_fault : Answer → Bool
+is_fault answer.Done = false
+is_fault answer.Fault = true
+is_fault answer.NoMemory = false
+
+-- a file was begun for the session that is to be opened
+pub record Begins (g : Origin) (old : JobView) (a : Answer) (new : JobView) : Type 0 where
+  pub calls : Calls g (begin_calls g (session_in old.fifo)) Begin old a new
+  pub mux : a ≡ answer.Done → MuxAfter g [] new.kit.mux
+
+-- a session was opened, and its note made
+pub record Opens (g : Origin) (old : JobView) (a : Answer) (new : JobView) : Type 0 where
+  pub made : CallsMade (begin_calls g (session_in old.fifo)) Begin true old a new
+  pub counts : old.shelf.faults ≤ new.shelf.faults
+  pub want_counts : old.shelf.wants ≤ new.shelf.wants
+  pub kit : KitOf g new.kit
+  pub mux : a ≡ answer.Done → MuxAfter g [] new.kit.mux
+  pub fifo : new.fifo ≡ old.fifo
+  pub runs : new.runs ≡ old.runs
+  pub run_places : new.run_places ≡ old.run_places
+  pub sessions : new.sessions ≡ old.sessions ++ record { number = session_in old.fifo; begun = is_done a; closed = false } ∷ []
+  pub session_places : new.session_places + 1 ≡ old.session_places
+
+-- places were asked for, and granted or not
+pub record Asks (old : JobView) (granted : Bool) (new : JobView) : Type 0 where
+  pub shelf : new.shelf ≡ old.shelf
+  pub kit : new.kit ≡ old.kit
+  pub fifo : new.fifo ≡ old.fifo
+  pub runs : new.runs ≡ old.runs
+  pub sessions : new.sessions ≡ old.sessions
+  pub faults : new.faults ≡ old.faults
+  pub run_places : old.run_places ≤ new.run_places
+  pub session_places : old.session_places ≤ new.session_places
+  pub fault_places : old.fault_places ≤ new.fault_places
+  pub granted_all : granted ≡ true → (2 ≤ new.run_places) × (1 ≤ new.session_places) × (1 ≤ new.fault_places)
+
+-- a fate was added, and nothing else changed
+pub record Settles (i : ℕ) (f : Fate) (old new : JobView) : Type 0 where
+  pub shelf : new.shelf ≡ old.shelf
+  pub kit : new.kit ≡ old.kit
+  pub fifo : new.fifo ≡ old.fifo
+  pub sessions : new.sessions ≡ old.sessions
+  pub session_places : new.session_places ≡ old.session_places
+  pub faults : new.faults ≡ old.faults
+  pub fault_places : new.fault_places ≡ old.fault_places
+  pub fates : expand new.runs ≡ expand old.runs ++ (i, f) ∷ []
+  pub joins : Joins new.runs (i + 1) f
+  pub order : AreInOrder i old.runs → AreInOrder (i + 1) new.runs
+  pub run_places : old.run_places ≤ new.run_places + 1
+  pub kept_places : Joins old.runs i f → new.run_places ≡ old.run_places
+
+-- a session was opened and the packet written, or the opening was refused
+abbrev pub OpensAndPuts : Origin → Packet → FaultAt → JobView → Answer → JobView → Type 0
+OpensAndPuts g p at old a new =
+    ((mid : JobView) × Opens g old answer.Done mid × Puts g [] p at mid a new) ⊎ ((is_done a ≡ false) × Opens g old a new)
+
+-- there is room for the run of this fate, or it was refused; the first run has its place from the start
+pub record MakesRoom (i : ℕ) (f : Fate) (old : JobView) (granted : Bool) (new : JobView) : Type 0 where
+  pub shelf : new.shelf ≡ old.shelf
+  pub kit : new.kit ≡ old.kit
+  pub fifo : new.fifo ≡ old.fifo
+  pub runs : new.runs ≡ old.runs
+  pub sessions : new.sessions ≡ old.sessions
+  pub session_places : new.session_places ≡ old.session_places
+  pub faults : new.faults ≡ old.faults
+  pub fault_places : new.fault_places ≡ old.fault_places
+  pub run_places : old.run_places ≤ new.run_places
+  pub room : granted ≡ true → Joins new.runs i f ⊎ (2 ≤ new.run_places)
+  pub refused : granted ≡ false → (Joins old.runs i f → ⊥) × (2 ≤ old.run_places → ⊥)
+
+-- the sessions after the muxer's end
+abbrev pub ClosesLast : Answer → List SessionNote → List SessionNote → Type 0
+ClosesLast answer.Done old new =
+    (front : List SessionNote) (x : SessionNote) → old ≡ front ++ x ∷ [] → new ≡ front ++ record { number = x.number; begun = x.begun; closed = true } ∷ []
+ClosesLast answer.Fault old new = new ≡ old
+ClosesLast answer.NoMemory old new = new ≡ old
+
+-- the muxer's end was called
+pub record Closes (g : Origin) (before : List Packet) (old : JobView) (a : Answer) (new : JobView) : Type 0 where
+  pub made : CallsMade (end_calls g before) End false old a new
+  pub counts : old.shelf.faults ≤ new.shelf.faults
+  pub want_counts : old.shelf.wants ≤ new.shelf.wants
+  pub fifo : new.fifo ≡ old.fifo
+  pub runs : new.runs ≡ old.runs
+  pub sessions : ClosesLast a old.sessions new.sessions

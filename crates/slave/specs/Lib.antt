@@ -1,0 +1,10 @@
+pub mod Accounts
+pub mod Calls
+pub mod End
+pub mod Fresh
+pub mod Headline
+pub mod Job
+pub mod Origin
+pub mod Places
+pub mod Runs
+pub mod Table

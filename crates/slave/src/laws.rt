@@ -1,0 +1,13 @@
+// What holds of every end of an output.
+ghost use Rattle.slave.specs.Accounts.{EndsMeetAccounts};
+ghost use Rattle.slave.specs.Headline.{NoFaultNoLoss};
+
+/// An output whose shelf's counts of faults and wants didn't rise is closed and holds its file over all packets.
+pub fn no_fault_no_loss()
+    ensures { NoFaultNoLoss }
+{}
+
+/// Every packet has one fate, every fate its cause, and every cause its note.
+pub fn ends_meet_accounts()
+    ensures { EndsMeetAccounts }
+{}

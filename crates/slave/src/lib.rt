@@ -1,0 +1,21 @@
+//! One output: its sessions, the fates of its packets, and the notes of its faults.
+#![tactic(auto)]
+
+mod job;
+mod laws;
+mod mux;
+mod name;
+mod places;
+mod records;
+mod runs;
+
+pub use job::{SlaveEnd, SlaveJob};
+pub use laws::{ends_meet_accounts, no_fault_no_loss};
+pub use mux::Mux;
+pub use name::session_name;
+pub use places::Places;
+pub use records::{FaultAt, FaultNote, Run, SessionNote};
+pub use runs::{add_fate, joins};
+
+#[cfg(test)]
+mod tests;
