@@ -1,18 +1,18 @@
 -- Units, one after another.
-use Rattle.std.proofs.Common.{◌≡◌, ℕ, zero, suc, ◌+◌, ◌-◌, ◌<◌, ◌≤◌, Bool, true, false, List, [], ◌∷◌, ◌++◌, length, take, drop, refl, sym, ap, ◌∙◌, arith, Option, None, Some, cond}
+use Rattle.std.proofs.Common.{◌≡◌, ℕ, zero, suc, ◌+◌, ◌-◌, ◌<◌, ◌≤◌, Bool, true, false, List, [], ◌∷◌, length, take, drop, refl, sym, ap, ◌∙◌, arith, Option, None, Some, cond}
 use Rattle.std.specs.Prelude.{nat_lt, is_some, if◌then◌else◌, ◌||◌, ◌&&◌, filter, unwrap_or}
 use Rattle.std.specs.Option.{option_map}
 use Rattle.std.proofs.lemmas.List.{length-drop}
 use Rattle.std.proofs.lemmas.Bool.Decides.{nat_tests}
-use Rattle.rmx_media.specs.Units.{is_filled, size_in, parts_by, parts_of, units_of, is_valid, AreFilled}
+use Rattle.rmx_media.specs.Units.{is_filled, size_in, parts_by, parts_of, units_of, is_valid}
 
 not_short : (m n : ℕ) → nat_lt m n ≡ false → n ≤ m
 not_short m n h = grind (arith, nat_tests)
 
-is_short : (m n : ℕ) → m < n → nat_lt m n ≡ true
+pub is_short : (m n : ℕ) → m < n → nat_lt m n ≡ true
 is_short m n h = grind (arith, nat_tests)
 
-is_long : (m n : ℕ) → n ≤ m → nat_lt m n ≡ false
+pub is_long : (m n : ℕ) → n ≤ m → nat_lt m n ≡ false
 is_long m n h = grind (arith, nat_tests)
 
 -- the first part, and those after it

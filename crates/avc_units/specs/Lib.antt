@@ -1,2 +1,5 @@
+pub mod Filled
+pub mod Pieces
+pub mod Placed
 pub mod UnitList
 pub mod Units

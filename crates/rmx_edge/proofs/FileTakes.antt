@@ -3,7 +3,7 @@ use Rattle.std.proofs.Common.{◌≡◌, ℕ, Bool, true, false, List, [], ◌�
 use Rattle.std.specs.Prelude.{flat_map, ◌==◌, if◌then◌else◌}
 use Rattle.std.proofs.lemmas.Bool.{eqb-true}
 use Rattle.std.proofs.lemmas.List.{nil_from_length}
-use Rattle.rmx_edge.specs.Shelf.{ShelfTake, ShelfCall, Create, Write, Close, change_last, with_piece, as_closed, new_take, after}
+use Rattle.rmx_edge.specs.Shelf.{ShelfTake, ShelfCall, Write, Close, change_last, with_piece, as_closed, new_take, after}
 use Rattle.rmx_edge.specs.Pieces.{write_of, writes, joined}
 use Rattle.rmx_edge.specs.FileCalls.{calls_over}
 use Rattle.rmx_edge.specs.Laws.{FilesAreTakes}

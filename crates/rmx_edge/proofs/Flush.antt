@@ -1,11 +1,10 @@
 -- A refused flush, as a refusal of the write before it.
-use Rattle.std.proofs.Common.{◌≡◌, ℕ, ◌+◌, ◌≤◌, List, [], ◌∷◌, ◌++◌, length, take, arith, ap, ◌∙◌, sym, refl, subst, length-append, Err, Option, Some, None}
+use Rattle.std.proofs.Common.{◌≡◌, ℕ, List, [], ◌∷◌, ◌++◌, length, take, arith, ap, ◌∙◌, sym, refl, subst, length-append, Option, Some, None}
 use Rattle.std.specs.Prelude.{option_map}
 use Rattle.std.proofs.lemmas.List.{take_all}
-use Rattle.rmx_edge.specs.declared.shelf.ShelfFault.{ShelfFault}
 use Rattle.rmx_edge.specs.Count.{raised}
-use Rattle.rmx_edge.specs.Shelf.{ShelfTake, ShelfCall, Write, ShelfState, Accepted, after, after_call, accepted_by, with_call, without_last, Flushes}
-use Rattle.rmx_edge.specs.Run.{Completed, Stopped, AreLeftBy}
+use Rattle.rmx_edge.specs.Shelf.{ShelfTake, ShelfCall, Write, Accepted, after, after_call, accepted_by, with_call, without_last}
+use Rattle.rmx_edge.specs.Run.{AreLeftBy}
 use Rattle.rmx_edge.specs.Laws.{FlushesStopWrites, BytesAreCounted}
 use Rattle.rmx_edge.proofs.Run.{after-append, accepted_by-append, total-accepted}
 

@@ -8,3 +8,4 @@ pub mod Known
 pub mod PieceLemmas
 pub mod Run
 pub mod Takes
+pub mod Writing

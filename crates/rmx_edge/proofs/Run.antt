@@ -3,7 +3,7 @@ use Rattle.std.proofs.Common.{◌≡◌, ℕ, ◌+◌, ◌≤◌, inl, inr, Bool
 use Rattle.std.specs.Prelude.{option_map}
 use Rattle.rmx_edge.specs.declared.shelf.ShelfFault.{ShelfFault}
 use Rattle.rmx_edge.specs.Count.{raised, Rose}
-use Rattle.rmx_edge.specs.Shelf.{ShelfTake, ShelfCall, ShelfState, Accepted, after, after_call, stays_open, size_of, size_in, total, with_call, accepted_by, IsLeftBy, TakesAfter, Makes}
+use Rattle.rmx_edge.specs.Shelf.{ShelfTake, ShelfCall, ShelfState, Accepted, after, after_call, stays_open, size_of, total, with_call, accepted_by, IsLeftBy, TakesAfter, Makes}
 use Rattle.rmx_edge.specs.Run.{writing_after, bytes_of, AreLeftBy, Stopped, Completed, CompletedOrStopped, Runs}
 
 pub after-append : (xs ys : List ShelfCall) (takes : List ShelfTake) → after (xs ++ ys) takes ≡ after ys (after xs takes)
@@ -185,3 +185,16 @@ stopped_then xs ys n a b c p q = record {
 -- a run that was completed, and then one that was stopped: all calls of the first were made
 pub stopped_past : {T : Type 0} {xs ys : List ShelfCall} {x : T} {e : ShelfFault} {a b c : ShelfState} → Runs xs (Ok x) a b → Runs {T = T} ys (Err e) b c → Stopped (xs ++ ys) (length xs) a c
 stopped_past {T} {xs} {ys} {x} {e} {a} {b} {c} p q = let same : length xs + 0 ≡ length xs = omega arith in subst (λ n. Stopped (xs ++ ys) n a c) same (stopped_then xs ys 0 a b c p.calls_made q.calls_made)
+
+-- fewer calls were made too
+pub stopped_least : {calls : List ShelfCall} {m n : ℕ} {a b : ShelfState} → m ≤ n → Stopped calls n a b → Stopped calls m a b
+stopped_least h p = record {
+  made = p.made;
+  refused = p.refused;
+  rest = p.rest;
+  split = p.split;
+  enough = let e = p.enough in omega arith;
+  takes = p.takes;
+  count = p.count;
+  accepted = p.accepted;
+}

@@ -3,7 +3,7 @@ use Rattle.std.specs.Prelude.{◌≡◌, ℕ, ◌+◌, ◌≤◌, Bool, true, �
 use Rattle.rmx_edge.specs.declared.shelf.ShelfFault.{ShelfFault}
 use Rattle.rmx_edge.specs.declared.shelf.ShelfFault.TheVariants.{Failed, NoMemory}
 use Rattle.rmx_edge.specs.Count.{raised, Rose}
-use Rattle.rmx_edge.specs.Shelf.{ShelfTake, ShelfCall, ShelfState, Accepted, after, stays_open, size_of, accepted_by, with_call, IsLeftBy, StaysSound, IsCounted}
+use Rattle.rmx_edge.specs.Shelf.{ShelfTake, ShelfCall, ShelfState, after, stays_open, size_of, accepted_by, with_call, IsLeftBy, StaysSound, IsCounted}
 
 -- whether a take is being written after these calls
 abbrev pub writing_after : List ShelfCall → Bool → Bool

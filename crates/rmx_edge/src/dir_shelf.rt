@@ -35,7 +35,8 @@ where
 
     /// No file is open. The claim is one of those of the run.
     pub fn new(alloc: Global, rt: R, claim: Claim) -> DirShelf<R>
-        ensures { (⟦<DirShelf<R> as Shelf>⟧.state result).writing ≡ false }
+        ensures idle { (⟦<DirShelf<R> as Shelf>⟧.state result).writing ≡ false }
+        ensures count { (⟦<DirShelf<R> as Shelf>⟧.state result).faults ≡ 0 }
     {
         DirShelf {
             rt,

@@ -12,12 +12,14 @@ pub struct Faults {
 }
 
 impl Faults {
+    ghost use Rattle.std.specs.Prelude.{Some, None, MatchOption};
     ghost use Rattle.rmx_edge.specs.Count.{raised};
-    ghost use Rattle.rmx_edge.specs.Faults.{count_of};
+    ghost use Rattle.rmx_edge.specs.Faults.{count_of, last_of};
 
     /// No fault yet.
     pub fn new() -> Faults
-        ensures { count_of result ≡ 0 }
+        ensures count { count_of result ≡ 0 }
+        ensures last { last_of result ≡ None }
     {
         Faults {
             count: 0,
@@ -27,7 +29,8 @@ impl Faults {
 
     /// One more fault. The count stands still at 2^64 - 1.
     pub fn note(&mut self, error: io::Error)
-        ensures { count_of self.new ≡ raised (count_of self.old) 1 }
+        ensures count { count_of self.new ≡ raised (count_of self.old) 1 }
+        ensures last { last_of self.new ≡ Some error }
     {
         self.count = self.count.saturating_add(1);
         self.last = Some(error);
@@ -41,7 +44,9 @@ impl Faults {
     }
 
     /// The error of the last fault.
-    pub fn last(&self) -> Option<&io::Error> {
+    pub fn last(&self) -> Option<&io::Error>
+        ensures { MatchOption result (last_of self.now ≡ None) (λ e. last_of self.now ≡ Some e.now) }
+    {
         self.last.as_ref()
     }
 }

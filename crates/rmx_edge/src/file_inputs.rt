@@ -31,7 +31,8 @@ where
 
     /// Nothing is open. The claim is one of those of the run.
     pub fn new(rt: R, claim: Claim) -> FileInputs<R>
-        ensures { (⟦<FileInputs<R> as Inputs>⟧.state result).readable ≡ false }
+        ensures idle { (⟦<FileInputs<R> as Inputs>⟧.state result).readable ≡ false }
+        ensures count { (⟦<FileInputs<R> as Inputs>⟧.state result).faults ≡ 0 }
     {
         FileInputs {
             rt,

@@ -16,7 +16,9 @@ pub struct StdSink<R: Print + Drop> {
 
 impl<R: Print + Drop> StdSink<R> {
     /// Nothing is written yet.
-    pub fn new(rt: R) -> StdSink<R> {
+    pub fn new(rt: R) -> StdSink<R>
+        ensures { (⟦<StdSink<R> as Sink>⟧.state result).faults ≡ 0 }
+    {
         StdSink {
             rt,
             faults: Faults::new(),

@@ -1,11 +1,9 @@
 -- The configuration of an AAC stream.
-use Rattle.std.proofs.Common.{◌≡◌, ℕ, ◌+◌, ◌<◌, ◌≤◌, Bool, true, false, List, length, take, refl, sym, ap, ◌∙◌, arith, Ok, Err, Result, subst}
+use Rattle.std.proofs.Common.{◌≡◌, ℕ, ◌≤◌, Bool, true, false, List, length, refl, ap, ◌∙◌, arith, Ok, Err}
 use Rattle.std.specs.Prelude.{nat_lt, if◌then◌else◌, ◌==◌, ◌||◌, ◌&&◌, not}
 use Rattle.std.proofs.lemmas.Bool.Decides.{nat_tests}
-use Rattle.rmx_media.specs.declared.config.ConfigFault.{ConfigFault}
 use Rattle.rmx_media.specs.declared.config.ConfigFault.TheVariants.{Short, ObjectType, Frequency, Channels}
 use Rattle.rmx_media.specs.declared.aac.AacConfig.{AacConfig}
-use Rattle.rmx_media.specs.Bits.{number_of, bits}
 use Rattle.rmx_media.specs.Aac.{object_type_of, index_of, channels_of, extension_index_of, inner_type_of, is_plain, is_extended, aac_config}
 use Rattle.rmx_media.specs.Config.{IsReadAac}
 

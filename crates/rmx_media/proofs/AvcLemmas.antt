@@ -1,12 +1,11 @@
 -- The configuration of an AVC stream.
-use Rattle.std.proofs.Common.{◌≡◌, ℕ, zero, suc, ◌+◌, ◌-◌, ◌%◌, ◌<◌, ◌≤◌, Bool, true, false, List, [], ◌∷◌, ◌++◌, length, take, drop, refl, sym, ap, ◌∙◌, arith, Option, None, Some, Ok, Err, Result, subst, get_or}
+use Rattle.std.proofs.Common.{◌≡◌, ℕ, suc, ◌+◌, ◌%◌, ◌<◌, ◌≤◌, Bool, true, false, List, length, take, drop, refl, sym, ap, ◌∙◌, arith, Option, None, Some, Ok, Err}
 use Rattle.std.specs.Prelude.{nat_lt, is_some, slice_index, if◌then◌else◌, ◌==◌, not}
 use Rattle.std.proofs.lemmas.Bool.Decides.{nat_tests}
-use Rattle.rmx_media.specs.declared.config.ConfigFault.{ConfigFault}
 use Rattle.rmx_media.specs.declared.config.ConfigFault.TheVariants.{Short, Version}
 use Rattle.rmx_media.specs.declared.avc.AvcConfig.{AvcConfig}
 use Rattle.rmx_media.specs.Bits.{number_of}
-use Rattle.rmx_media.specs.Avc.{Run, run_of, with_set, rest_alone, sets_after, sets_in, read_as, avc_config, sets_left}
+use Rattle.rmx_media.specs.Avc.{Run, run_of, with_set, rest_alone, sets_in, read_as, avc_config, sets_left}
 
 not_short : (m n : ℕ) → nat_lt m n ≡ false → n ≤ m
 not_short m n h = grind (arith, nat_tests)

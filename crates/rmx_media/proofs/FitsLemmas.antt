@@ -1,6 +1,6 @@
 -- What follows from a packet's fitting.
-use Rattle.std.proofs.Common.{◌≡◌, ℕ, ◌≤◌, List, length, true, refl, ap, sym, ◌∙◌, subst, arith, Option, Some}
-use Rattle.std.specs.Prelude.{ℤ, pos, negsuc, ◌≤ℤ◌, ◌+ℤ◌}
+use Rattle.std.proofs.Common.{◌≡◌, ◌≤◌, List, length, true, ap, ◌∙◌, subst, arith}
+use Rattle.std.specs.Prelude.{ℤ, pos, negsuc, ◌≤ℤ◌}
 use Rattle.std.proofs.lemmas.Int.{ints}
 use Rattle.rmx_media.specs.declared.aac.AacConfig.{AacConfig}
 use Rattle.rmx_media.specs.declared.avc.AvcConfig.{AvcConfig}
@@ -9,7 +9,8 @@ use Rattle.rmx_media.specs.declared.config.Config.TheVariants.{Avc, Aac}
 use Rattle.rmx_media.specs.declared.packet.Form.{Form}
 use Rattle.rmx_media.specs.declared.packet.Form.TheVariants as form
 use Rattle.rmx_media.specs.declared.packet.Format.{Format}
-use Rattle.rmx_media.specs.declared.packet.Format.TheVariants.{Flv, Mpegts}
+use Rattle.rmx_media.specs.declared.packet.Format.TheVariants.{Flv, Adts, Mpegts}
+use Rattle.rmx_media.specs.declared.streams.Kind.TheVariants.{Audio}
 use Rattle.rmx_media.specs.declared.packet.Packet.{Packet}
 use Rattle.rmx_media.specs.declared.streams.MuxStream.{MuxStream}
 use Rattle.rmx_media.specs.declared.streams.MuxStreams.{MuxStreams}
@@ -103,3 +104,35 @@ read_avc f s p c e h = config_is f s p (Avc c) e h
 
 pub read_aac : (f : Format) (s : MuxStreams) (p : Packet) (c : AacConfig) → p.config ≡ Aac c → FitsButDts f s p → IsReadAac c
 read_aac f s p c e h = config_is f s p (Aac c) e h
+
+-- audio that fits MPEG-TS fits ADTS
+pub adts_too : (s : MuxStreams) (p : Packet) → kind_of p.config ≡ Audio → Fits Mpegts s p → Fits Adts s p
+adts_too s p k h = record {
+  all = record {
+    stream = h.all.stream;
+    config = h.all.config;
+    payload = h.all.payload;
+    size = h.all.size;
+    early = h.all.early;
+    late = h.all.late;
+    suits = k;
+  };
+  low = h.low;
+  high = h.high;
+}
+
+-- native packets that are small enough fit FLV
+pub flv_too : (s : MuxStreams) (p : Packet) → p.form ≡ form.Native → length p.payload ≤ 16777210 → Fits Mpegts s p → Fits Flv s p
+flv_too s p n l h = record {
+  all = record {
+    stream = h.all.stream;
+    config = h.all.config;
+    payload = h.all.payload;
+    size = h.all.size;
+    early = h.all.early;
+    late = h.all.late;
+    suits = (n, l);
+  };
+  low = h.low;
+  high = h.high;
+}

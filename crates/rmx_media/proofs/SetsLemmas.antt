@@ -1,9 +1,9 @@
 -- Parameter sets, one after another.
-use Rattle.std.proofs.Common.{◌≡◌, ℕ, zero, suc, ◌+◌, ◌-◌, ◌%◌, ◌<◌, ◌≤◌, Bool, true, false, List, [], ◌∷◌, ◌++◌, length, take, drop, refl, sym, ap, ◌∙◌, arith, Option, None, Some, subst}
+use Rattle.std.proofs.Common.{◌≡◌, ℕ, suc, ◌+◌, ◌≤◌, Bool, true, false, List, [], ◌∷◌, length, take, drop, refl, arith, Option, None, Some}
 use Rattle.std.specs.Prelude.{nat_lt, is_some, slice_index, if◌then◌else◌}
 use Rattle.std.proofs.lemmas.Bool.Decides.{nat_tests}
 use Rattle.rmx_media.specs.Bits.{number_of}
-use Rattle.rmx_media.specs.Avc.{Run, run_of, with_set, sets_after, with_sets, left_by, sets_left, some_sets, sets_alone, rest_alone}
+use Rattle.rmx_media.specs.Avc.{Run, run_of, with_set, with_sets, left_by, sets_left, some_sets, sets_alone}
 
 -- a set that is there
 pub record First (last : Bool) (count : ℕ) (bytes : List ℕ) : Type 0 where

@@ -1,5 +1,5 @@
 -- The configuration of an AVC stream (AVCDecoderConfigurationRecord of ISO/IEC 14496-15, 5.2.4.1), as far as it is read.
-use Rattle.std.specs.Prelude.{ℕ, zero, suc, ◌+◌, ◌-◌, ◌%◌, ◌==◌, Bool, true, false, not, nat_lt, if◌then◌else◌, List, [], ◌∷◌, ◌++◌, length, take, drop, filter, Option, None, Some, Result, Ok, Err, slice_index}
+use Rattle.std.specs.Prelude.{ℕ, zero, suc, ◌+◌, ◌%◌, ◌==◌, Bool, true, false, not, nat_lt, if◌then◌else◌, List, [], ◌∷◌, ◌++◌, length, take, drop, filter, Option, None, Some, Result, Ok, Err, slice_index}
 use Rattle.rmx_media.specs.declared.config.ConfigFault.{ConfigFault}
 use Rattle.rmx_media.specs.declared.config.ConfigFault.TheVariants.{Short, Version}
 use Rattle.rmx_media.specs.declared.avc.AvcConfig.{AvcConfig}

@@ -1,6 +1,4 @@
-use Rattle.std.proofs.Common.{◌≡◌, ℕ, ◌+◌, ◌<◌, List, ◌∷◌, take, drop, length, sym, ap, ◌∙◌, Bool, false, true, arith}
-use Rattle.std.specs.Prelude.{◌||◌}
-use Rattle.rmx_media.specs.Units.{size_in, parts_of, is_filled}
+use Rattle.std.proofs.Common.{sym, ap, ◌∙◌, arith}
 use Rattle.avc_units.proofs.UnitsLemmas.{good, good_begin, good_filled, good_empty, good_end, parts_cut}
 use Rattle.avc_units.proofs.native.valid_units.Goals as goal
 

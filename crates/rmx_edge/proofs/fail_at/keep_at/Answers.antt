@@ -1,5 +1,4 @@
-use Rattle.std.proofs.Common.{◌≡◌, ℕ, ◌<◌, ◌≤◌, List, [], ◌∷◌, length, zero, suc, arith, refl, get_or, drop, sym, ap, ◌∙◌, true}
-use Rattle.std.specs.Prelude.{◌==◌}
+use Rattle.std.proofs.Common.{◌≡◌, ℕ, ◌<◌, List, [], ◌∷◌, length, zero, suc, arith, get_or, drop, sym, ◌∙◌}
 use Rattle.std.proofs.lemmas.Grind.{common_steps}
 use Rattle.rmx_edge.specs.declared.fail_at.FailAt.{FailAt}
 use Rattle.rmx_edge.specs.FailAt.{keep_of}

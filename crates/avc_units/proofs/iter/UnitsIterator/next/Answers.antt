@@ -1,7 +1,4 @@
-use Rattle.std.proofs.Common.{◌≡◌, ℕ, ◌<◌, List, ◌∷◌, length, sym, ap, ◌∙◌, subst, arith, true}
-use Rattle.std.specs.Prelude.{is_some}
-use Rattle.std.specs.Option.{option_map}
-use Rattle.rmx_media.specs.Units.{parts_of, units_of}
+use Rattle.std.proofs.Common.{◌≡◌, length, ap, ◌∙◌, arith}
 use Rattle.avc_units.specs.Units.{left_of}
 use Rattle.avc_units.proofs.UnitsLemmas.{units_filled, units_empty, units_none}
 use Rattle.avc_units.proofs.iter.UnitsIterator.next.Goals as goal

@@ -1,8 +1,8 @@
-use Rattle.std.proofs.Common.{◌≡◌, ℕ, ◌%◌, ◌≤◌, List, length, take, drop, get_or, true, false, Bool, arith, sym, ap, ◌∙◌, lit<}
+use Rattle.std.proofs.Common.{◌≡◌, ℕ, ◌%◌, List, length, take, drop, get_or, false, arith, sym, ap, ◌∙◌, lit<}
 use Rattle.std.specs.Prelude.{is_some, slice_index}
 use Rattle.std.proofs.lemmas.List.{get_or-take}
 use Rattle.rmx_media.specs.Avc.{sets_left, some_sets, all_sets}
-use Rattle.rmx_media.proofs.AvcLemmas.{read, Read, whole, Whole}
+use Rattle.rmx_media.proofs.AvcLemmas.{read, whole, Whole}
 use Rattle.rmx_media.proofs.avc.AvcConfig.sets.Goals as goal
 
 pub split_at-requires : goal.split_at-requires

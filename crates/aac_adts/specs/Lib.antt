@@ -1,0 +1,4 @@
+pub mod Adts
+pub mod AdtsMux
+pub mod Laws
+pub mod Sample

@@ -1,0 +1,6 @@
+pub mod Ends
+pub mod Fitting
+pub mod History
+pub mod Pair
+pub mod Samples
+pub mod Stamps

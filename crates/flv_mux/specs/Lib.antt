@@ -1,0 +1,4 @@
+pub mod Flv
+pub mod FlvMux
+pub mod Packets
+pub mod Sample
