@@ -1,0 +1,3 @@
+pub mod ApplyLemmas
+pub mod ParseLemmas
+pub mod ResultLemmas
