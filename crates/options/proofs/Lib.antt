@@ -1,0 +1,11 @@
+pub mod Characters
+pub mod Pieces
+pub mod Numbers
+pub mod Capped
+pub mod Commas
+pub mod Binds
+pub mod Shorter
+pub mod Parts
+pub mod Tees
+pub mod WordLemmas
+pub mod Valid
