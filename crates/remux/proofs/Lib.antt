@@ -1,0 +1,16 @@
+pub mod Accepting
+pub mod Giving
+pub mod Handing
+pub mod Pumping
+pub mod Taking
+pub mod Least
+pub mod Counting
+pub mod Reading
+pub mod Flushing
+pub mod Starting
+pub mod Probing
+pub mod Carrying
+pub mod Writing
+pub mod Demuxing
+pub mod Reporting
+pub mod Running
