@@ -17,6 +17,8 @@ mod report;
 mod run;
 mod status;
 mod take;
+#[cfg(test)]
+mod tests;
 mod words;
 
 use explain::{HELP, VERSION, explain};
