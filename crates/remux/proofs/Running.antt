@@ -54,7 +54,7 @@ use Rattle.remux.specs.Fit.{Fit, kind_at}
 use Rattle.remux.specs.Flow.{Flow}
 use Rattle.remux.specs.Origin.{Origin}
 use Rattle.remux.specs.Outcome.{max_bytes, max_delta, Taken, Opened, Unopened, audio_in, IsSettled, EndsEarly, Gave, EndsWritten, IsNothing, IsMade, ComesTo, refused_by, unmade_by, status_by, RunsAs, IsReported, with_status}
-use Rattle.remux.specs.Output.{OutputView, KeptBy, Keeps, EndsBy}
+use Rattle.remux.specs.Output.{OutputView, KeptBy, Keeps, EndsBy, EndsCaused, EndsSound}
 use Rattle.remux.specs.Reading.{StopsEarly}
 use Rattle.remux.specs.Took.{TookView, Took, SawEnd}
 use Rattle.remux.specs.Words.{Asked}
@@ -364,6 +364,23 @@ pub end_says : (st : EndState) (origin : Origin) (given : List Packet) (v : Outp
 end_says st origin given v last upto ends u k =
     let same : k.0 ≡ origin = sym (one_origin origin k.0 k.1) in
     (subst (λ (o : Origin). EndsBy st o given last) same (ends k.0 given k.2), u ∙ k.2.count)
+
+-- and that it didn't fail on a shelf that is sound
+pub end_calm : (st : EndState) (origin : Origin) (given : List Packet) (v : OutputView) (last : ShelfState) → ((o : Origin) (given : List Packet) → KeptBy o given v → EndsSound st o.shelf last) → Keeps v (origin ∷ []) given → EndsSound st origin.shelf last
+end_calm st origin given v last ends k =
+    let same : k.0 ≡ origin = sym (one_origin origin k.0 k.1) in
+    subst (λ (o : Origin). EndsSound st o.shelf last) same (ends k.0 given k.2)
+
+caused_by : (st : EndState) (origin : Origin) (given : List Packet) (last : ShelfState) → EndsBy st origin given last → EndsCaused st origin.shelf last
+caused_by end_state.Closed origin given last e = tt
+caused_by end_state.Failed origin given last e = e
+caused_by end_state.NoMemory origin given last e = e
+
+-- and what it did not end well of
+pub end_caused : (st : EndState) (origin : Origin) (given : List Packet) (v : OutputView) (last : ShelfState) → ((o : Origin) (given : List Packet) → KeptBy o given v → EndsBy st o given last) → Keeps v (origin ∷ []) given → EndsCaused st origin.shelf last
+end_caused st origin given v last ends k =
+    let same : k.0 ≡ origin = sym (one_origin origin k.0 k.1) in
+    caused_by st origin given last (subst (λ (o : Origin). EndsBy st o given last) same (ends k.0 given k.2))
 
 -- of which it is settled that they are all
 pub settled_now : (f : Found) (start mid : InputState) (ended : Bool) (known : Option Kinds) (has : List ℕ → List Tag → Type 0) → (w : FoundIn f max_bytes start mid ended known has) → IsSettled w.bytes mid

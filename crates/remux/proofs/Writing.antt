@@ -12,7 +12,7 @@ use Rattle.fifo_core.specs.declared.types.EndState.{EndState}
 use Rattle.fifo_core.specs.declared.types.EndState.TheVariants as end_state
 use Rattle.aac_adts.specs.Adts.{begin_calls, put_calls, end_calls}
 use Rattle.remux.specs.Origin.{Origin}
-use Rattle.remux.specs.Output.{chosen, OutputView, calls_so_far, Stands, KeptBy, ClosesBy, EndsBy, dead_in}
+use Rattle.remux.specs.Output.{chosen, OutputView, calls_so_far, Stands, KeptBy, ClosesBy, EndsBy, EndsSound, dead_in, is_dead}
 use Rattle.remux.specs.declared.output.Condition.{Condition}
 use Rattle.remux.specs.declared.output.Condition.TheVariants as condition
 
@@ -36,6 +36,7 @@ more_calls name packets p =
 pub kept_writing : (origin : Origin) (given : List Packet) (p : Packet) (old new : OutputView) → KeptBy origin given old → old.condition ≡ condition.Writing → p.stream ≡ old.stream →
     new ≡ record old { given = old.given + 1; shelf = new.shelf } → Runs (put_calls p) (Ok (tt {0})) old.shelf new.shelf → new.shelf.writing ≡ true → KeptBy origin (given ++ p ∷ []) new
 kept_writing origin given p old new k w of e run still = record {
+  sound = λ h. let a = k.sound h in let b = run.sound a.2 in (ap is_dead (ap (λ (v : OutputView). v.condition) e) ∙ a.0, b.faults ∙ a.1, b.sound);
   streams = ap (λ (v : OutputView). v.streams) e ∙ k.streams;
   stream = ap (λ (v : OutputView). v.stream) e ∙ k.stream;
   count = omega (arith, ap (λ (v : OutputView). v.given) e, k.count, length-append given (p ∷ []));
@@ -67,3 +68,6 @@ no_death x u e h = no (sym (ap (λ (y : Condition). dead_in y u) e) ∙ h)
   where
     no : false ≡ true → ⊥
     no h = cc
+
+pub sound_close : (origin : Origin) (given : List Packet) (v : OutputView) (st : EndState) (shelf : ShelfState) → KeptBy origin given v → EndsSound st v.shelf shelf → EndsSound st origin.shelf shelf
+sound_close origin given v st shelf k s = λ h. let a = k.sound h in let b = s a.2 in (b.0, b.1 ∙ a.1)

@@ -23,7 +23,7 @@ use Rattle.remux.specs.declared.status.Status.TheVariants as status
 use Rattle.remux.specs.declared.status.Refusal.TheVariants as refusal
 use Rattle.remux.specs.declared.status.Ending.TheVariants as ending
 use Rattle.remux.specs.Demuxed.{is_refused}
-use Rattle.remux.specs.Output.{EndsBy}
+use Rattle.remux.specs.Output.{EndsBy, EndsCaused, EndsSound}
 use Rattle.remux.specs.Took.{SawEnd}
 use Rattle.remux.specs.Words.{Asked}
 use Rattle.remux.specs.declared.words.WordFault.{WordFault}
@@ -151,6 +151,8 @@ pub record IsWritten {S : Type 0} (state : S → ShelfState) (asked : Asked) (ol
   pub shelves_are : shelves ≡ first ∷ o.spare.items
   pub ends : o.ends.items ≡ end ∷ []
   pub written : EndsWritten o.status asked old new (state first) (state end.shelf) end.state o.upto
+  pub caused : EndsCaused end.state (state first) (state end.shelf)
+  pub sound : EndsSound end.state (state first) (state end.shelf)
 
 -- what a plan comes to
 abbrev pub ComesTo : {S : Type 0} → (S → ShelfState) → Asked → InputState → InputState → List S → Outcome S → Type 0
@@ -168,6 +170,11 @@ IsReported s t = (t ≡ s) ⊎ ((s ≡ status.Done) × (t ≡ status.ReportFault
 abbrev pub RunsAs : {S : Type 0} → (S → ShelfState) → Result Asked WordFault → InputState → InputState → List S → Outcome S → Type 0
 RunsAs state (Ok asked) old new shelves o = (s : Status) × IsReported s o.status × ComesTo state asked old new shelves (with_status s o)
 RunsAs state (Err f) old new shelves o = IsNothing (status.Words f) shelves o × (new ≡ old)
+
+-- an input that is sound doesn't fail
+abbrev pub ReadsSound : Result Asked WordFault → InputState → InputState → Type 0
+ReadsSound (Ok asked) old new = old.sound_at asked.source ≡ true → new.faults ≡ old.faults
+ReadsSound (Err f) old new = Unit {0}
 
 abbrev pub refused_by : Unfound → Status
 refused_by unfound.NotFlv = status.InputRefused refusal.NotFlv

@@ -10,7 +10,7 @@ use Rattle.rmx_edge.specs.declared.shelf.ShelfFault.TheVariants as shelf_fault
 use Rattle.rmx_edge.specs.Count.{Rose}
 use Rattle.rmx_edge.specs.FileCalls.{calls_over}
 use Rattle.rmx_edge.specs.Run.{Runs}
-use Rattle.rmx_edge.specs.Shelf.{ShelfState, ShelfCall}
+use Rattle.rmx_edge.specs.Shelf.{ShelfState, ShelfCall, StaysSound}
 use Rattle.fifo_core.specs.declared.types.EndState.{EndState}
 use Rattle.fifo_core.specs.declared.types.EndState.TheVariants as end_state
 use Rattle.aac_adts.specs.Adts.{begin_calls, put_calls, end_calls, adts_calls}
@@ -61,6 +61,10 @@ Stands condition.Writing origin given shelf = Runs (calls_so_far origin.name (ch
 Stands (condition.Dead n) origin given shelf = (n ≤ length given) × (shelf.writing ≡ false) × Rose origin.shelf.faults shelf.faults
 Stands condition.Wanted origin given shelf = (shelf.writing ≡ false) × Rose origin.shelf.wants shelf.wants
 
+-- on a shelf that is sound nothing failed
+abbrev pub KeepsSound : ShelfState → Condition → ShelfState → Type 0
+KeepsSound first c now = first.sound ≡ true → (is_dead c ≡ false) × (now.faults ≡ first.faults) × (now.sound ≡ true)
+
 -- made of this, it was given these packets
 pub record KeptBy (origin : Origin) (given : List Packet) (v : OutputView) : Type 0 where
   pub streams : v.streams ≡ origin.streams
@@ -69,6 +73,7 @@ pub record KeptBy (origin : Origin) (given : List Packet) (v : OutputView) : Typ
   pub faults : origin.shelf.faults ≤ v.shelf.faults
   pub wants : origin.shelf.wants ≤ v.shelf.wants
   pub stands : Stands v.condition origin given v.shelf
+  pub sound : KeepsSound origin.shelf v.condition v.shelf
 
 abbrev pub Keeps : OutputView → List Origin → List Packet → Type 0
 Keeps v start given = (origin : Origin) × (start ≡ origin ∷ []) × KeptBy origin given v
@@ -100,3 +105,14 @@ pub record WritesOne {T : Type 0} (r : Result T ShelfFault) (p : Packet) (old ne
   pub faults : old.shelf.faults ≤ new.shelf.faults
   pub wants : old.shelf.wants ≤ new.shelf.wants
   pub by : WritesBy r p old.shelf new.shelf
+  pub sound : old.shelf.sound ≡ true → StaysSound r old.shelf new.shelf
+
+-- no output fails on a shelf that is sound
+abbrev pub EndsSound : EndState → ShelfState → ShelfState → Type 0
+EndsSound st first last = first.sound ≡ true → (st ≡ end_state.Failed → ⊥) × (last.faults ≡ first.faults)
+
+-- no output fails, or wants memory, but its shelf's count rose
+abbrev pub EndsCaused : EndState → ShelfState → ShelfState → Type 0
+EndsCaused end_state.Closed first last = Unit {0}
+EndsCaused end_state.Failed first last = Rose first.faults last.faults
+EndsCaused end_state.NoMemory first last = Rose first.wants last.wants

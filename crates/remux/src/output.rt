@@ -6,7 +6,7 @@ ghost use Rattle.rmx_media.specs.Streams.{CanMux};
 ghost use Rattle.rmx_media.specs.declared.packet.Packet.{Packet as Piece};
 ghost use Rattle.remux.specs.Fed.{Answers};
 ghost use Rattle.remux.specs.Origin.{Origin};
-ghost use Rattle.remux.specs.Output.{ClosesBy, dead_in, EndsBy, fallen, KeptBy, Keeps, TakesOne, WritesOne, view_of};
+ghost use Rattle.remux.specs.Output.{EndsSound, ClosesBy, dead_in, EndsBy, fallen, KeptBy, Keeps, TakesOne, WritesOne, view_of};
 
 use crate::outputs::{Fed, Outputs};
 use aac_adts::AdtsMux;
@@ -98,6 +98,7 @@ impl<S: Shelf> Output<S> {
         requires { (start : List Origin) × (given : List Piece) × Keeps (view_of S.state self) start given }
         ensures dead { (u : ℕ) → dead_in (view_of S.state self).condition u ≡ true → result.state ≡ EndState.Failed }
         ensures ends { (origin : Origin) (given : List Piece) → KeptBy origin given (view_of S.state self) → EndsBy result.state origin given (S.state result.shelf) }
+        ensures sound { (origin : Origin) (given : List Piece) → KeptBy origin given (view_of S.state self) → EndsSound result.state origin.shelf (S.state result.shelf) }
     {
         let Output {
             mux,
@@ -123,7 +124,8 @@ impl<S: Shelf> Output<S> {
 // Ends a file that is being written.
 fn close<S: Shelf>(mut mux: AdtsMux, mut shelf: S) -> SlaveEnd<S>
     requires { (S.state shelf).writing ≡ true }
-    ensures { ClosesBy result.state (S.state shelf) (S.state result.shelf) }
+    ensures closes { ClosesBy result.state (S.state shelf) (S.state result.shelf) }
+    ensures sound { EndsSound result.state (S.state shelf) (S.state result.shelf) }
 {
     match mux.end(&mut shelf) {
         Ok(()) => SlaveEnd {

@@ -1,14 +1,16 @@
 // The top call.
-ghost use Rattle.std.specs.Prelude.{◌≡◌, ◌<◌, ◌≤◌, false, length, All, IfOk, IsErrOf, MatchOption, Some, None, [], ◌∷◌};
+ghost use Rattle.std.specs.Prelude.{◌≡◌, ◌<◌, ◌≤◌, false, true, length, All, IfOk, IsErrOf, MatchOption, Some, None, [], ◌∷◌};
 ghost use Rattle.rmx_edge.specs.Inputs.{InputState};
 ghost use Rattle.flv_tags.specs.Tags.{reading_of};
 ghost use Rattle.flv_demux.specs.Deal.{no_discards};
 ghost use Rattle.flv_demux.specs.Probe.{streams};
 ghost use Rattle.flv_demux.specs.State.{AreSoundInfos, HasDealt};
 ghost use Rattle.remux.specs.Finding.{FoundIn};
+ghost use Rattle.remux.specs.Output.{EndsCaused, EndsSound};
 ghost use Rattle.remux.specs.Told.{told};
+ghost use Rattle.remux.specs.Took.{StaysSound};
 ghost use Rattle.remux.specs.Words.{plan};
-ghost use Rattle.remux.specs.Outcome.{asked_by, audio_in, ComesTo, EndsWritten, IsMade, IsNothing, max_bytes, Opened, refused_by, RunsAs, unmade_by, status_by, IsReported, with_status};
+ghost use Rattle.remux.specs.Outcome.{asked_by, audio_in, ComesTo, EndsWritten, IsMade, IsNothing, max_bytes, Opened, ReadsSound, refused_by, RunsAs, unmade_by, status_by, IsReported, with_status};
 ghost use Rattle.remux.specs.Report.{Reports};
 
 use crate::carry::carry;
@@ -64,6 +66,7 @@ pub fn run_direct<I: Inputs, S: Shelf + Drop, O: Sink>(
     requires idle { All (λ s. (S.state s).writing ≡ false) shelves.items }
     ensures outcome { RunsAs S.state (plan words.now) (I.state inputs.old) (I.state inputs.new) shelves.items result }
     ensures report { Reports result.status (O.state out.old) (O.state out.new) }
+    ensures sound { ReadsSound (plan words.now) (I.state inputs.old) (I.state inputs.new) }
 {
     match read_words(words) {
         Ok(plan) => reported(run_plan(alloc, &plan, inputs, shelves), out),
@@ -115,7 +118,8 @@ fn run_plan<I: Inputs, S: Shelf + Drop>(
 ) -> Outcome<S>
     requires some { 0 < length shelves.items }
     requires idle { All (λ s. (S.state s).writing ≡ false) shelves.items }
-    ensures { ComesTo S.state (asked_by plan.now) (I.state inputs.old) (I.state inputs.new) shelves.items result }
+    ensures comes { ComesTo S.state (asked_by plan.now) (I.state inputs.old) (I.state inputs.new) shelves.items result }
+    ensures sound { (I.state inputs.old).sound_at plan.now.source.now ≡ true → (I.state inputs.new).faults ≡ (I.state inputs.old).faults }
 {
     let mut buf = match buffer(alloc, PIECE) {
         Ok(buf) => buf,
@@ -287,7 +291,10 @@ fn write_made<I: Inputs, S: Shelf + Drop>(
     requires small { length buf.old ≤ 65536 }
     requires idle { (S.state shelf).writing ≡ false }
     requires found { (start : InputState) × (w : FoundIn found max_bytes start (I.state inputs.old) demux.old.core.reader.ended (told demux.old) (λ b done. HasDealt b done demux.old)) × IsMade (streams (reading_of w.bytes).tags) made }
-    ensures { (old start : InputState) → Opened plan.now.source.now old start → start.faults ≤ (I.state inputs.old).faults
+    ensures sound { StaysSound (I.state inputs.old) (I.state inputs.new) }
+    ensures caused { EndsCaused result.end.state (S.state shelf) (S.state result.end.shelf) }
+    ensures calm { EndsSound result.end.state (S.state shelf) (S.state result.end.shelf) }
+    ensures written { (old start : InputState) → Opened plan.now.source.now old start → start.faults ≤ (I.state inputs.old).faults
         → (w : FoundIn found max_bytes start (I.state inputs.old) demux.old.core.reader.ended (told demux.old) (λ b done. HasDealt b done demux.old)) → IsMade (streams (reading_of w.bytes).tags) made
         → EndsWritten result.status (asked_by plan.now) old (I.state inputs.new) (S.state shelf) (S.state result.end.shelf) result.end.state result.upto }
 {
@@ -347,7 +354,8 @@ fn write_found<I: Inputs, S: Shelf + Drop>(
     requires some { 0 < length shelves.items }
     requires idle { All (λ s. (S.state s).writing ≡ false) shelves.items }
     requires found { (start : InputState) × FoundIn found max_bytes start (I.state inputs.old) demux.old.core.reader.ended (told demux.old) (λ b done. HasDealt b done demux.old) }
-    ensures { (old start : InputState) → Opened plan.now.source.now old start → start.faults ≤ (I.state inputs.old).faults
+    ensures sound { StaysSound (I.state inputs.old) (I.state inputs.new) }
+    ensures comes { (old start : InputState) → Opened plan.now.source.now old start → start.faults ≤ (I.state inputs.old).faults
         → FoundIn found max_bytes start (I.state inputs.old) demux.old.core.reader.ended (told demux.old) (λ b done. HasDealt b done demux.old)
         → ComesTo S.state (asked_by plan.now) old (I.state inputs.new) shelves.items result }
 {

@@ -1,4 +1,4 @@
-use Rattle.std.proofs.Common.{◌≡◌, ◌+◌, [], ◌∷◌, ◌++◌, length, arith, ap, false, length-append}
+use Rattle.std.proofs.Common.{◌≡◌, [], ◌∷◌, length, arith, ap, false, length-append}
 use Rattle.rmx_edge.specs.Shelf.{ShelfState}
 use Rattle.rmx_edge.specs.MemShelf.{state_of}
 use Rattle.remux.proofs.Running.{all_more}
