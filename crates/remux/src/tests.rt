@@ -83,8 +83,18 @@ fn words(alloc: Global) -> Result<Vec<String>, Fail> {
     Ok(words)
 }
 
-// How a run on this text ends, read in pieces of at most so many bytes, and what it writes, if it writes a file.
-fn run_on(alloc: Global, text: &[u8], most: u32) -> Result<(Status, Option<Vec<u8>>), Fail>
+// What a run came to.
+#[derive(Drop)]
+struct Ran {
+    status: Status,
+    tags: u64,
+    upto: u64,
+    /// What it wrote, if it made a file.
+    written: Option<Vec<u8>>,
+}
+
+// Runs on this text, which is read in pieces of at most so many bytes.
+fn run_on(alloc: Global, text: &[u8], most: u32) -> Result<Ran, Fail>
     requires { 0 < most }
 {
     let mut bytes = Vec::new(alloc);
@@ -94,23 +104,28 @@ fn run_on(alloc: Global, text: &[u8], most: u32) -> Result<(Status, Option<Vec<u
     let mut out = MemSink::new(Vec::new(alloc));
     let words = words(alloc)?;
     let outcome = run_direct(alloc, &words, &mut inputs, shelves(alloc)?, &mut out);
-    let Some(end) = outcome.ends.as_slice().first() else {
-        return Ok((outcome.status, None));
-    };
-    if end.shelf.take_count() == 0 {
-        return Ok((outcome.status, None));
+    let mut written = None;
+    if let Some(end) = outcome.ends.as_slice().first() {
+        if end.shelf.take_count() > 0 {
+            let mut bytes = Vec::new(alloc);
+            bytes.extend_from_slice(end.shelf.take_bytes(0))?;
+            written = Some(bytes);
+        }
     }
-    let mut written = Vec::new(alloc);
-    written.extend_from_slice(end.shelf.take_bytes(0))?;
-    Ok((outcome.status, Some(written)))
+    Ok(Ran {
+        status: outcome.status,
+        tags: outcome.tags,
+        upto: outcome.upto,
+        written,
+    })
 }
 
 #[test]
 fn one_packet(rt: HostRuntime) -> Result<(), Fail> {
     for most in [1, 2, 13, 65536] {
-        let (status, written) = run_on(rt.alloc(), &TEXT, most)?;
-        assert_eq!(&rt; status, Status::Done);
-        assert_eq!(&rt; written.as_deref(), Some(FRAME.as_slice()));
+        let ran = run_on(rt.alloc(), &TEXT, most)?;
+        assert_eq!(&rt; ran.status, Status::Done);
+        assert_eq!(&rt; ran.written.as_deref(), Some(FRAME.as_slice()));
     }
     Ok(())
 }
@@ -119,20 +134,20 @@ fn one_packet(rt: HostRuntime) -> Result<(), Fail> {
 #[test]
 fn prefixes(rt: HostRuntime) -> Result<(), Fail> {
     for count in 0..=TEXT.len() {
-        let (status, written) = run_on(rt.alloc(), &TEXT[..count], 65536)?;
+        let ran = run_on(rt.alloc(), &TEXT[..count], 65536)?;
         let wanted = match count {
             0..=8 => Status::InputRefused(Refusal::NotFlv),
             9..=27 => Status::InputRefused(Refusal::NoStreams),
             28 | 32 | 46 | 50 => Status::Done,
             _ => Status::InputEnded(Ending::Cut),
         };
-        assert_eq!(&rt; status, wanted);
+        assert_eq!(&rt; ran.status, wanted);
         let size = match count {
             0..=27 => None,
             28..=45 => Some(0),
             _ => Some(8),
         };
-        assert_eq!(&rt; written.map(|bytes| bytes.len()), size);
+        assert_eq!(&rt; ran.written.map(|bytes| bytes.len()), size);
     }
     Ok(())
 }
@@ -140,26 +155,28 @@ fn prefixes(rt: HostRuntime) -> Result<(), Fail> {
 #[test]
 fn several_streams(rt: HostRuntime) -> Result<(), Fail> {
     for most in [1, 65536] {
-        let (status, written) = run_on(rt.alloc(), &SAMPLE, most)?;
-        assert_eq!(&rt; status, Status::Done);
-        assert_eq!(&rt; written.as_deref(), Some(TWICE.as_slice()));
+        let ran = run_on(rt.alloc(), &SAMPLE, most)?;
+        assert_eq!(&rt; ran.status, Status::Done);
+        assert_eq!(&rt; ran.tags, 8);
+        assert_eq!(&rt; ran.upto, 4);
+        assert_eq!(&rt; ran.written.as_deref(), Some(TWICE.as_slice()));
     }
-    let (status, written) = run_on(rt.alloc(), &CHANGED, 65536)?;
-    assert_eq!(&rt; status, Status::Done);
-    assert_eq!(&rt; written.as_deref(), Some(OTHER.as_slice()));
+    let ran = run_on(rt.alloc(), &CHANGED, 65536)?;
+    assert_eq!(&rt; ran.status, Status::Done);
+    assert_eq!(&rt; ran.written.as_deref(), Some(OTHER.as_slice()));
     Ok(())
 }
 
 #[test]
 fn refusals(rt: HostRuntime) -> Result<(), Fail> {
-    let (status, written) = run_on(rt.alloc(), &NO_AUDIO, 65536)?;
-    assert_eq!(&rt; status, Status::InputRefused(Refusal::NoneSelected(0)));
-    assert_eq!(&rt; written, None);
-    let (status, written) = run_on(rt.alloc(), &[0x47, 0x40, 0x00], 65536)?;
-    assert_eq!(&rt; status, Status::InputRefused(Refusal::NotFlv));
-    assert_eq!(&rt; written, None);
-    let (status, written) = run_on(rt.alloc(), &[0x46, 0x4C, 0x56, 1, 4, 0, 0, 0, 8], 65536)?;
-    assert_eq!(&rt; status, Status::InputRefused(Refusal::BadOffset));
-    assert_eq!(&rt; written, None);
+    let ran = run_on(rt.alloc(), &NO_AUDIO, 65536)?;
+    assert_eq!(&rt; ran.status, Status::InputRefused(Refusal::NoneSelected(0)));
+    assert_eq!(&rt; ran.written, None);
+    let ran = run_on(rt.alloc(), &[0x47, 0x40, 0x00], 65536)?;
+    assert_eq!(&rt; ran.status, Status::InputRefused(Refusal::NotFlv));
+    assert_eq!(&rt; ran.written, None);
+    let ran = run_on(rt.alloc(), &[0x46, 0x4C, 0x56, 1, 4, 0, 0, 0, 8], 65536)?;
+    assert_eq!(&rt; ran.status, Status::InputRefused(Refusal::BadOffset));
+    assert_eq!(&rt; ran.written, None);
     Ok(())
 }
