@@ -36,6 +36,7 @@ pub fn take_piece<I: Inputs, D: Demux>(
     ensures known { (b : List ℕ) (done : List Tag) → D.has demux.old b done → D.known demux.new ≡ D.known demux.old }
     ensures count { (I.state inputs.old).faults ≤ (I.state inputs.new).faults }
     ensures sound { StaysSound (I.state inputs.old) (I.state inputs.new) }
+    ensures some { (result ≡ Ok (Taken.Bytes 0) → ⊥) }
     ensures whole { IsErrOf result TakeFault.Failed → (I.state inputs.old).sound_now ≡ false }
 {
     let room = if limit < 65536 {
