@@ -7,4 +7,5 @@ pub mod Job
 pub mod Origin
 pub mod Places
 pub mod Runs
+pub mod Sample
 pub mod Table
