@@ -33,13 +33,13 @@ same_wants : {out : Origin} {o : FifoOptions} {v : JobView} → IsFresh out o v 
 same_wants k = rw (← k.shelf) (omega arith)
 
 first_table : {out : Origin} {o : FifoOptions} (a : Answer) (v w : JobView) → IsFresh out o v → Opens out v a w
-    → Table out o [] (Begun a ∷ []) [] w.shelf w.kit.mux w.runs w.sessions w.faults
+    → Table out o [] (Begun a ∷ []) [] w.shelf w.kit.writer w.runs w.sessions w.faults
 first_table {out = out} {o = o} answer.Done v w k c =
     let s = session_in v.fifo in
     let q : Row = record { note = record { number = s; begun = true; closed = false }; outcome = Open; fault = None; written = []; before = v.shelf; after = w.shelf } in
     record {
       rows = q ∷ [];
-      last = record { front = []; last = q; split = refl; number = k.shows.session; is_open = λ _ _. (refl, c.mux refl) };
+      last = record { front = []; last = q; split = refl; number = k.shows.session; is_open = λ _ _. (refl, c.writer refl) };
       numbered = (k.shows.session, tt);
       are_sessions = c.sessions ∙ rw k.sessions refl;
       are_faults = c.made.2 ∙ k.faults;

@@ -9,3 +9,4 @@ pub mod Places
 pub mod Runs
 pub mod Sample
 pub mod Table
+pub mod Watched

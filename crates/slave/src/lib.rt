@@ -8,6 +8,7 @@ mod name;
 mod places;
 mod records;
 mod runs;
+mod watched;
 
 pub use job::{SlaveEnd, SlaveJob};
 pub use laws::{ends_meet_accounts, no_fault_no_loss};

@@ -19,7 +19,7 @@ returns-in-Ok g c = λ h kit.
         sessions = refl;
         session_places = refl;
       };
-      mux = λ e. c.in-Ok.ensures.after h kit.mux refl;
+      writer = λ e. record { mux = c.in-Ok.ensures.after h kit.mux refl; flushed = λ some. absurd (some refl) };
     }
 
 pub returns-in-Err-NoMemory : goal.returns-in-Err-NoMemory
@@ -37,7 +37,7 @@ returns-in-Err-NoMemory g c = λ h kit.
         sessions = refl;
         session_places = refl;
       };
-      mux = λ e. absurd (cc e);
+      writer = λ e. absurd (cc e);
     }
 
 pub returns-in-Err-Failed : goal.returns-in-Err-Failed
@@ -55,5 +55,5 @@ returns-in-Err-Failed g c = λ h kit.
         sessions = refl;
         session_places = refl;
       };
-      mux = λ e. absurd (cc e);
+      writer = λ e. absurd (cc e);
     }
