@@ -59,10 +59,10 @@ pub struct SlaveEnd<S> {
 
 impl<S: Shelf> SlaveJob<S> {
     ghost use Rattle.slave.specs.Job.{view_of, KitOf, Puts, Begins, Opens, Asks, Settles, OpensAndPuts, MakesRoom, Closes};
-    ghost use Rattle.slave.specs.Table.{Tells, expected_in, Keeps, Holds, Ends, Concludes, Primed, Acts, Takes};
+    ghost use Rattle.slave.specs.Table.{Tells, expected_in, Keeps, Grows, Holds, Ends, Concludes, Primed, Acts, Takes};
     ghost use Rattle.slave.specs.Fresh.{IsFresh};
     ghost use Rattle.slave.specs.Prepared.{IsPrepared};
-    ghost use Rattle.slave.specs.End.{Ended, end_view};
+    ghost use Rattle.slave.specs.End.{EndedBy, IsUnclosed, end_view};
 
     /// It reserves places for two runs, of which one is for want of memory alone, a session and a fault. A refusal hands the
     /// shelf back.
@@ -367,8 +367,8 @@ impl<S: Shelf> SlaveJob<S> {
         requires ready { (g : Origin) × (o : FifoOptions) × (L : List Packet)
             × Keeps g o L (view_of S.state self.old) × (length L ≡ index) × Takes g p.now }
         requires few { index < 2 ^ 61 }
-        ensures { (g : Origin) (o : FifoOptions) (L : List Packet)
-            → Keeps g o L (view_of S.state self.old) → length L ≡ index → Takes g p.now → Keeps g o (L ++ p.now ∷ []) (view_of S.state self.new) }
+        ensures { (g : Origin) (o : FifoOptions) (L : List Packet) (k : Keeps g o L (view_of S.state self.old))
+            → length L ≡ index → Takes g p.now → Grows g o (L ++ p.now ∷ []) k.history (view_of S.state self.new) }
     {
         let facts = self.facts(p);
         let expected = self.expected(index, facts);
@@ -412,7 +412,10 @@ impl<S: Shelf> SlaveJob<S> {
     /// Ends the output, and tells what became of its packets.
     pub fn finish_direct(mut self) -> SlaveEnd<S>
         requires { (g : Origin) × (o : FifoOptions) × (L : List Packet) × Keeps g o L (view_of S.state self) }
-        ensures { (g : Origin) (o : FifoOptions) (L : List Packet) → Keeps g o L (view_of S.state self) → Ended g o L (end_view S.state result) }
+        ensures ended { (g : Origin) (o : FifoOptions) (L : List Packet) (k : Keeps g o L (view_of S.state self))
+            → EndedBy g o L k.history (end_view S.state result) }
+        ensures given_up { (g : Origin) (o : FifoOptions) (L : List Packet) (k : Keeps g o L (view_of S.state self))
+            → mode_is_dead (mode_of o k.history) ≡ true → IsUnclosed result.state }
     {
         if self.fifo.is_live() {
             let answer = self.end();
