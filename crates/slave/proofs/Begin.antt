@@ -23,6 +23,7 @@ opened a v w x b s k f r rp n np ss sp = record {
   counts = rw s b.calls.counts;
   want_counts = rw s b.calls.want_counts;
   sound = rw s b.calls.sound;
+  safe = b.calls.safe;
   kit = rw k b.calls.kit;
   mux = λ e. rw k (b.mux e);
   fifo = f ∙ b.calls.fifo;

@@ -85,8 +85,9 @@ pub record Ended (g : Origin) (o : FifoOptions) (L : List Packet) (e : EndView) 
   pub packets : flat_map row_packets rows ≡ written_of L (fates_of history)
   pub notes : EndNotes history end_answer e.faults
   pub inline : e.inline ≡ false
-  -- a sound shelf had no fault
+  -- a sound shelf had no fault, and none is noted
   pub sound : g.shelf.sound ≡ true → e.shelf.faults ≡ g.shelf.faults
+  pub safe : g.shelf.sound ≡ true → e.faults ≡ []
   pub wants : g.shelf.wants ≤ e.shelf.wants
   pub excuse : e.state ≡ ends.NoMemory → e.faults ≡ [] → Rose g.shelf.wants e.shelf.wants
 

@@ -87,6 +87,7 @@ pub record Calls (g : Origin) (calls : List ShelfCall) (at : FaultAt) (old : Job
   pub counts : old.shelf.faults ≤ new.shelf.faults
   pub want_counts : old.shelf.wants ≤ new.shelf.wants
   pub sound : SoundStays old.shelf new.shelf
+  pub safe : old.shelf.sound ≡ true → a ≡ answer.Fault → ⊥
   pub kit : KitOf g new.kit
   pub fifo : new.fifo ≡ old.fifo
   pub runs : new.runs ≡ old.runs
@@ -120,6 +121,7 @@ pub record Opens (g : Origin) (old : JobView) (a : Answer) (new : JobView) : Typ
   pub counts : old.shelf.faults ≤ new.shelf.faults
   pub want_counts : old.shelf.wants ≤ new.shelf.wants
   pub sound : SoundStays old.shelf new.shelf
+  pub safe : old.shelf.sound ≡ true → a ≡ answer.Fault → ⊥
   pub kit : KitOf g new.kit
   pub mux : a ≡ answer.Done → MuxAfter g [] new.kit.mux
   pub fifo : new.fifo ≡ old.fifo
@@ -188,6 +190,7 @@ pub record Closes (g : Origin) (before : List Packet) (old : JobView) (a : Answe
   pub counts : old.shelf.faults ≤ new.shelf.faults
   pub want_counts : old.shelf.wants ≤ new.shelf.wants
   pub sound : SoundStays old.shelf new.shelf
+  pub safe : old.shelf.sound ≡ true → a ≡ answer.Fault → ⊥
   pub fifo : new.fifo ≡ old.fifo
   pub runs : new.runs ≡ old.runs
   pub sessions : ClosesLast a old.sessions new.sessions

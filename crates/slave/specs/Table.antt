@@ -162,6 +162,7 @@ pub record Table (g : Origin) (o : FifoOptions) (L : List Packet) (h : History) 
   pub notes : NotesTell h faults
   pub writing : wanted h ≡ false → shelf.writing ≡ mode_is_live (mode_of o h)
   pub sound : SoundStays g.shelf shelf
+  pub safe : g.shelf.sound ≡ true → faults ≡ []
   -- the count of wants rose where memory was wanted and no fault was noted
   pub wants : g.shelf.wants ≤ shelf.wants
   pub excuse : wanted h ≡ true → faults ≡ [] → Rose g.shelf.wants shelf.wants

@@ -13,6 +13,7 @@ returns-in-Ok g c = λ h kit.
         counts = run.faults;
         want_counts = run.wants;
         sound = λ e. (let s = run.sound e in (s.sound, s.faults));
+        safe = λ e x. cc x;
         kit = record { name = kit.name; short = kit.short; counts = kit.counts; video = kit.video; mux = c.in-Ok.ensures.of h kit.mux };
         fifo = refl;
         runs = refl;
@@ -32,6 +33,7 @@ returns-in-Err-NoMemory g c = λ h kit.
         counts = run.faults;
         want_counts = run.wants;
         sound = λ e. (let s = run.sound e in (s.sound, s.faults));
+        safe = λ e x. cc x;
         kit = record { name = kit.name; short = kit.short; counts = kit.counts; video = kit.video; mux = c.in-Err-NoMemory.ensures.of h kit.mux };
         fifo = refl;
         runs = refl;
@@ -51,6 +53,7 @@ returns-in-Err-Failed g c = λ h kit.
         counts = run.faults;
         want_counts = run.wants;
         sound = λ e. (let s = run.sound e in (s.sound, s.faults));
+        safe = λ e x. (run.sound e).ok refl;
         kit = record { name = kit.name; short = kit.short; counts = kit.counts; video = kit.video; mux = c.in-Err-Failed.ensures.of h kit.mux };
         fifo = refl;
         runs = refl;

@@ -9,6 +9,7 @@ returns-in-Ok g c = λ h before kit after.
       counts = run.faults;
       want_counts = run.wants;
       sound = λ e. (let s = run.sound e in (s.sound, s.faults));
+      safe = λ e x. cc x;
       fifo = refl;
       runs = refl;
       sessions = c.close_last.ensures;
@@ -22,6 +23,7 @@ returns-in-Err-NoMemory g c = λ h before kit after.
       counts = run.faults;
       want_counts = run.wants;
       sound = λ e. (let s = run.sound e in (s.sound, s.faults));
+      safe = λ e x. cc x;
       fifo = refl;
       runs = refl;
       sessions = refl;
@@ -35,6 +37,7 @@ returns-in-Err-Failed g c = λ h before kit after.
       counts = run.faults;
       want_counts = run.wants;
       sound = λ e. (let s = run.sound e in (s.sound, s.faults));
+      safe = λ e x. (run.sound e).ok refl;
       fifo = refl;
       runs = refl;
       sessions = refl;

@@ -10,6 +10,7 @@ returns-in-Ok g c = λ h before kit after takes.
         counts = run.faults;
         want_counts = run.wants;
         sound = λ e. (let s = run.sound e in (s.sound, s.faults));
+        safe = λ e x. cc x;
         kit = record { name = kit.name; short = kit.short; counts = kit.counts; video = kit.video; mux = c.in-Ok.ensures.of h kit.mux };
         fifo = refl;
         runs = refl;
@@ -29,6 +30,7 @@ returns-in-Err-NoMemory g c = λ h before kit after takes.
         counts = run.faults;
         want_counts = run.wants;
         sound = λ e. (let s = run.sound e in (s.sound, s.faults));
+        safe = λ e x. cc x;
         kit = record { name = kit.name; short = kit.short; counts = kit.counts; video = kit.video; mux = c.in-Err-NoMemory.ensures.of h kit.mux };
         fifo = refl;
         runs = refl;
@@ -48,6 +50,7 @@ returns-in-Err-Failed g c = λ h before kit after takes.
         counts = run.faults;
         want_counts = run.wants;
         sound = λ e. (let s = run.sound e in (s.sound, s.faults));
+        safe = λ e x. (run.sound e).ok refl;
         kit = record { name = kit.name; short = kit.short; counts = kit.counts; video = kit.video; mux = c.in-Err-Failed.ensures.of h kit.mux };
         fifo = refl;
         runs = refl;
