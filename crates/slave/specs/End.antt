@@ -103,3 +103,8 @@ IsUnclosed s = (s ≡ ends.Failed) ⊎ (s ≡ ends.NoMemory)
 abbrev pub GivenUpStaysSo : Type 0
 GivenUpStaysSo = (g : Origin) (o : FifoOptions) (L : List Packet) (e : EndView) (k : Ended g o L e) (later part : History)
     → k.history ≡ later ++ part → mode_is_dead (mode_of o part) ≡ true → (mode_is_dead (mode_of o k.history) ≡ true) × IsUnclosed e.state
+
+-- on a sound shelf an output isn't given up, and it is closed unless memory was wanted
+abbrev pub SoundNeverFails : Type 0
+SoundNeverFails = (g : Origin) (o : FifoOptions) (L : List Packet) (e : EndView) (k : Ended g o L e)
+    → g.shelf.sound ≡ true → (mode_is_dead (mode_of o k.history) ≡ false) × (e.state ≡ ends.Failed → ⊥)
