@@ -1,0 +1,9 @@
+pub mod PutLemmas
+pub mod LawLemmas
+pub mod EndLemmas
+pub mod FileLemmas
+pub mod NearLemmas
+pub mod SessionLemmas
+pub mod TimelineLemmas
+pub mod TimesLemmas
+pub mod NumberLemmas

@@ -1,0 +1,7 @@
+// Laws on sessions of segments, each stated by a function that does nothing.
+ghost use Rattle.segmenter.specs.Laws.{SegmentsAreFiles};
+
+/// A session is whole files, one after another, each of the packets from one cut to the next, and then its list.
+pub fn segments_are_files()
+    ensures { SegmentsAreFiles }
+{}
