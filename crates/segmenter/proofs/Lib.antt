@@ -1,3 +1,5 @@
+pub mod ListLemmas
+pub mod SampleLemmas
 pub mod PutLemmas
 pub mod LawLemmas
 pub mod EndLemmas

@@ -58,7 +58,8 @@ on_ok (Err e) h ok = cc
 
 -- a stop is one of every longer list of calls too
 stop_longer : (xs ys : List ShelfCall) {a b : ShelfState} (stop : Stopped xs 0 a b) → (s : Stopped (xs ++ ys) 0 a b) × (creates (called s) ≡ creates (called stop))
-stop_longer xs ys stop = (record {
+stop_longer xs ys stop = (
+  record {
     made = stop.made;
     refused = stop.refused;
     rest = stop.rest ++ ys;
@@ -67,10 +68,13 @@ stop_longer xs ys stop = (record {
     takes = stop.takes;
     count = stop.count;
     accepted = stop.accepted;
-  }, refl)
+  },
+  refl,
+)
 
 stop_least : (calls : List ShelfCall) (k : ℕ) {a b : ShelfState} (stop : Stopped calls k a b) → (s : Stopped calls 0 a b) × (creates (called s) ≡ creates (called stop))
-stop_least calls k stop = (record {
+stop_least calls k stop = (
+  record {
     made = stop.made;
     refused = stop.refused;
     rest = stop.rest;
@@ -79,7 +83,9 @@ stop_least calls k stop = (record {
     takes = stop.takes;
     count = stop.count;
     accepted = stop.accepted;
-  }, refl)
+  },
+  refl,
+)
 
 -- behind calls that were all made, where no more create a file
 behind_all : (xs ys made : List ShelfCall) (refused : ShelfCall) (rest : List ShelfCall) → xs ++ ys ≡ made ++ refused ∷ rest → length xs ≤ length made → creates ys ≡ 0
@@ -140,7 +146,7 @@ pub numbered_then : {T : Type 0} (xs ys : List ShelfCall) (x : T) (r : Result T 
 numbered_then xs ys x (Ok y) n m a b c none p q =
     let same : creates xs ≡ creates (xs ++ ys) = (let e : creates xs ≡ creates xs + creates ys = omega arith in e) ∙ sym (creates-append xs ys) in
     record { run = runs_then p.run q; numbers = p.numbers ∙ ap (raised n) same }
-numbered_then xs ys x (Err e) n m a b c none p q = 
+numbered_then xs ys x (Err e) n m a b c none p q =
     let far : Stopped (xs ++ ys) (length xs) a c = stopped_past p.run q in
     let near = stop_least (xs ++ ys) (length xs) far in
     let same : creates xs ≡ creates (called far) = all_created xs ys far none in

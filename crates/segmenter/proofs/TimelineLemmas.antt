@@ -91,17 +91,17 @@ pub split_at : (t u : Timeline) (s : Session) (cutters before : List Packet) (p 
     → Shows u s (cutters ++ p ∷ []) before
 split_at t u s cutters before p number h n entries start zero top =
     let end : since t.zero p.pts ≡ p.pts -ℤ zero_of before = ap (λ (z : Option ℤ). since z p.pts) h.zero ∙ since_is before p.pts in record {
-  entries =
-      entries
-      ∙ ap (λ (es : List ListEntry). es ++ entry number t.start (since t.zero p.pts) ∷ []) h.entries
-      ∙ ap (λ (m : ℕ). closed_from (zero_of before) s.first (pos 0) cutters ++ entry m t.start (since t.zero p.pts) ∷ []) n
-      ∙ ap (λ (z : ℤ). closed_from (zero_of before) s.first (pos 0) cutters ++ entry (raised s.first (length cutters)) z (since t.zero p.pts) ∷ []) h.start
-      ∙ ap (λ (z : ℤ). closed_from (zero_of before) s.first (pos 0) cutters ++ entry (raised s.first (length cutters)) (start_from (zero_of before) (pos 0) cutters) z ∷ []) end
-      ∙ sym (closed_push (zero_of before) s.first (pos 0) cutters p);
-  start = start ∙ end ∙ sym (start_push (zero_of before) (pos 0) cutters p);
-  zero = zero ∙ h.zero;
-  top = top ∙ h.top;
-}
+      entries =
+          entries
+          ∙ ap (λ (es : List ListEntry). es ++ entry number t.start (since t.zero p.pts) ∷ []) h.entries
+          ∙ ap (λ (m : ℕ). closed_from (zero_of before) s.first (pos 0) cutters ++ entry m t.start (since t.zero p.pts) ∷ []) n
+          ∙ ap (λ (z : ℤ). closed_from (zero_of before) s.first (pos 0) cutters ++ entry (raised s.first (length cutters)) z (since t.zero p.pts) ∷ []) h.start
+          ∙ ap (λ (z : ℤ). closed_from (zero_of before) s.first (pos 0) cutters ++ entry (raised s.first (length cutters)) (start_from (zero_of before) (pos 0) cutters) z ∷ []) end
+          ∙ sym (closed_push (zero_of before) s.first (pos 0) cutters p);
+      start = start ∙ end ∙ sym (start_push (zero_of before) (pos 0) cutters p);
+      zero = zero ∙ h.zero;
+      top = top ∙ h.top;
+    }
 
 -- the last file ended
 pub finished : (t : Timeline) (items : List ListEntry) (s : Session) (cutters before : List Packet) (number : ℕ) → Shows t s cutters before → number ≡ raised s.first (length cutters)

@@ -38,18 +38,18 @@ fits_lowered f streams p by h b =
     let by_high : by ≤ℤ pos 2147483647 = b.high in
     let early : p.dts ≤ℤ p.pts = h.all.early in
     let late : p.pts ≤ℤ (p.dts +ℤ pos 8388607) = h.all.late in record {
-  all = record {
-    stream = h.all.stream;
-    config = h.all.config;
-    payload = h.all.payload;
-    size = h.all.size;
-    early = omega (arith, ints);
-    late = omega (arith, ints);
-    suits = suits_same f p (p.dts -ℤ by) (p.pts -ℤ by) h.all.suits;
-  };
-  low = omega (arith, ints);
-  high = omega (arith, ints);
-}
+      all = record {
+        stream = h.all.stream;
+        config = h.all.config;
+        payload = h.all.payload;
+        size = h.all.size;
+        early = omega (arith, ints);
+        late = omega (arith, ints);
+        suits = suits_same f p (p.dts -ℤ by) (p.pts -ℤ by) h.all.suits;
+      };
+      low = omega (arith, ints);
+      high = omega (arith, ints);
+    }
 
 pub pts_near : (f : Format) (streams : MuxStreams) (p : Packet) → Fits f streams p → IsNear p.pts
 pts_near f streams p h =

@@ -6,6 +6,7 @@ pub mod FileMux
 pub mod Laws
 pub mod Near
 pub mod Numbers
+pub mod Sample
 pub mod SegMux
 pub mod Session
 pub mod Timeline

@@ -11,3 +11,6 @@ mod timeline;
 pub use cutter::Cutter;
 pub use file_mux::FileMux;
 pub use mux::SegMux;
+
+#[cfg(test)]
+mod tests;

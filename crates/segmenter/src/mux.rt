@@ -91,7 +91,7 @@ impl SegMux {
             → Shows self.new (record { plan = plan; template = template.now; first = next_of self.old }) [] }
         ensures run { (plan : Plan) → IsSegMuxOf plan self.old
             → RunsOrWants (begin_calls (record { plan = plan; template = template.now; first = next_of self.old })) (is_some plan.options.list)
-                result (next_of self.old) (next_of self.new) (S.state shelf.old) (S.state shelf.new) }
+            result (next_of self.old) (next_of self.new) (S.state shelf.old) (S.state shelf.new) }
     {
         if self.open(template).is_err() {
             return Err(ShelfFault::NoMemory);
@@ -112,7 +112,7 @@ impl SegMux {
             → Shows self.new s (before ++ p.now ∷ []) }
         ensures run { (s : Session) (before : List PacketOf) → IsSegMuxOf s.plan self.old → Shows self.old s before
             → RunsOrWants (put_calls s before p.now) (is_some s.plan.options.list && cuts_in s.plan before p.now)
-                result (next_of self.old) (next_of self.new) (S.state shelf.old) (S.state shelf.new) }
+            result (next_of self.old) (next_of self.new) (S.state shelf.old) (S.state shelf.new) }
         ensures ends { (s : Session) (before : List PacketOf) → IsSegMuxOf s.plan self.old → EndsInWrite (put_calls s before p.now) }
     {
         if self.cuts(p) {
@@ -191,7 +191,7 @@ impl SegMux {
             → before ≢ [] → IsOk result → Stands self.new s (p.now ∷ []) (cutters ++ p.now ∷ []) (before ++ p.now ∷ []) }
         ensures run { (s : Session) (stretch cutters before : List PacketOf) → IsSegMuxOf s.plan self.old → Stands self.old s stretch cutters before
             → before ≢ [] → RunsOrWants (end_file s stretch ++ (begin_file_calls s (raised s.first (length cutters + 1)) ++ put_in_file s [] p.now)) (is_some s.plan.options.list)
-                result (next_of self.old) (next_of self.new) (S.state shelf.old) (S.state shelf.new) }
+            result (next_of self.old) (next_of self.new) (S.state shelf.old) (S.state shelf.new) }
     {
         match self.cut(p, shelf) {
             Ok(()) => self.write(p, shelf),
@@ -210,7 +210,7 @@ impl SegMux {
             → before ≢ [] → IsOk result → Stands self.new s [] (cutters ++ p.now ∷ []) before }
         ensures run { (s : Session) (stretch cutters before : List PacketOf) → IsSegMuxOf s.plan self.old → Stands self.old s stretch cutters before
             → RunsOrWants (end_file s stretch ++ begin_file_calls s (raised s.first (length cutters + 1))) (is_some s.plan.options.list)
-                result (next_of self.old) (next_of self.new) (S.state shelf.old) (S.state shelf.new) }
+            result (next_of self.old) (next_of self.new) (S.state shelf.old) (S.state shelf.new) }
     {
         let Some(name) = self.next_name() else {
             return Ok(());
@@ -233,7 +233,7 @@ impl SegMux {
         ensures open { IsOk result → (S.state shelf.new).writing ≡ true }
         ensures run { (plan : Plan) (before : List PacketOf) → IsSegMuxOf plan self.old → FileAfter before self.old.file
             → NumberedRuns (end_of plan.options.inner plan.streams before ++ begin_of plan.options.inner plan.streams name.now)
-                result (next_of self.old) (next_of self.new) (S.state shelf.old) (S.state shelf.new) }
+            result (next_of self.old) (next_of self.new) (S.state shelf.old) (S.state shelf.new) }
     {
         self.base = None;
         match self.file.end(shelf) {

@@ -37,13 +37,13 @@ returns-clause-shows g c = λ plan h ok.
         first = λ none. refl;
       };
     } in record {
-  cutter =
-      subst (λ (cutter : Cutter). CutterShows cutter (rule_of plan) []) (sym kept.cutter)
-      (subst (λ (options : SegOptions). CutterShows c.open.new.self.cutter (record { time_us = options.time_us; any_packet = options.any_packet }) []) of.options o.cutter);
-  stands =
-      subst (λ (l : List Packet). Stands c.begin_file.new.self s l (cutting plan []) []) (sym (last_stretch_none plan))
-      (subst (λ (l : List Packet). Stands c.begin_file.new.self s [] l []) (sym (cutting_none plan)) stands);
-}
+      cutter =
+          subst (λ (cutter : Cutter). CutterShows cutter (rule_of plan) []) (sym kept.cutter)
+          (subst (λ (options : SegOptions). CutterShows c.open.new.self.cutter (record { time_us = options.time_us; any_packet = options.any_packet }) []) of.options o.cutter);
+      stands =
+          subst (λ (l : List Packet). Stands c.begin_file.new.self s l (cutting plan []) []) (sym (last_stretch_none plan))
+          (subst (λ (l : List Packet). Stands c.begin_file.new.self s [] l []) (sym (cutting_none plan)) stands);
+    }
 
 pub returns-clause-run : goal.returns-clause-run
 returns-clause-run g c = λ plan h.

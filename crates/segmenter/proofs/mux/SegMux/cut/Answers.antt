@@ -15,14 +15,14 @@ returns-clause-stands g c = λ s stretch cutters before h st some ok.
     let count : length cutters + 1 ≡ length (cutters ++ p ∷ []) = sym (length-append cutters (p ∷ [])) in
     let kept = c.note_cut.ensures.kept in
     let here : c.note_cut.new.self.next ≡ raised s.first (length (cutters ++ p ∷ [])) = kept.next ∙ st.next ∙ ap (raised s.first) count in record {
-  file = c.turn.ensures.after ok;
-  base = c.turn.ensures.base ∙ none_yet s.plan.options.reset;
-  next = c.turn.ensures.next ok ∙ ap (λ (n : ℕ). raised n 1) here ∙ raised-raised s.first (length (cutters ++ p ∷ [])) 1;
-  lists = record {
-    number = c.turn.ensures.number ok ∙ here;
-    template = c.turn.ensures.kept.template ∙ kept.template ∙ st.lists.template;
-    timeline = λ listed.
-        subst (λ (t : Timeline). TimelineShows t s (cutters ++ p ∷ []) before) (sym c.turn.ensures.kept.timeline) (c.note_cut.ensures.timeline s cutters before h st.lists noted listed);
-    first = λ none. absurd (some none);
-  };
-}
+      file = c.turn.ensures.after ok;
+      base = c.turn.ensures.base ∙ none_yet s.plan.options.reset;
+      next = c.turn.ensures.next ok ∙ ap (λ (n : ℕ). raised n 1) here ∙ raised-raised s.first (length (cutters ++ p ∷ [])) 1;
+      lists = record {
+        number = c.turn.ensures.number ok ∙ here;
+        template = c.turn.ensures.kept.template ∙ kept.template ∙ st.lists.template;
+        timeline = λ listed.
+            subst (λ (t : Timeline). TimelineShows t s (cutters ++ p ∷ []) before) (sym c.turn.ensures.kept.timeline) (c.note_cut.ensures.timeline s cutters before h st.lists noted listed);
+        first = λ none. absurd (some none);
+      };
+    }

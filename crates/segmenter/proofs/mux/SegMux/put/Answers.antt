@@ -26,13 +26,13 @@ returns-then-cuts-clause-shows g c = λ s before h shows ok.
     let cut : cuts_in s.plan before p ≡ true = sym (cuts_are s.plan before p) ∙ sym (asks.cuts_so marks shows.cutter) ∙ c.if-cuts.true in
     let stands = c.put_cutting.ensures.stands s (last_stretch s.plan before) (cutting s.plan before) before (c.cuts.ensures.of s.plan h)
     (c.cuts.ensures.stands s (last_stretch s.plan before) (cutting s.plan before) before shows.stands) (some_before s.plan before p cut) ok in record {
-  cutter =
-      subst (λ (ms : List Mark). CutterShows new.cutter (rule_of s.plan) ms) (sym (marks_push s.plan before p))
-      (subst (λ (cutter : Cutter). CutterShows cutter (rule_of s.plan) (mark_of s.plan p ∷ marks)) (sym c.put_cutting.ensures.cutter) (asks.shows marks shows.cutter));
-  stands =
-      subst (λ (l : List Packet). Stands new s l (cutting s.plan (before ++ p ∷ [])) (before ++ p ∷ [])) (sym (stretch_cut s.plan before p cut))
-      (subst (λ (l : List Packet). Stands new s (p ∷ []) l (before ++ p ∷ [])) (sym (cutting_cut s.plan before p cut)) stands);
-}
+      cutter =
+          subst (λ (ms : List Mark). CutterShows new.cutter (rule_of s.plan) ms) (sym (marks_push s.plan before p))
+          (subst (λ (cutter : Cutter). CutterShows cutter (rule_of s.plan) (mark_of s.plan p ∷ marks)) (sym c.put_cutting.ensures.cutter) (asks.shows marks shows.cutter));
+      stands =
+          subst (λ (l : List Packet). Stands new s l (cutting s.plan (before ++ p ∷ [])) (before ++ p ∷ [])) (sym (stretch_cut s.plan before p cut))
+          (subst (λ (l : List Packet). Stands new s (p ∷ []) l (before ++ p ∷ [])) (sym (cutting_cut s.plan before p cut)) stands);
+    }
 
 pub returns-clause-shows : goal.returns-clause-shows
 returns-clause-shows g c = λ s before h shows ok.
@@ -43,13 +43,13 @@ returns-clause-shows g c = λ s before h shows ok.
     let stay : cuts_in s.plan before p ≡ false = sym (cuts_are s.plan before p) ∙ sym (asks.cuts_so marks shows.cutter) ∙ c.if-cuts.false in
     let stands = c.write.ensures.stands s (last_stretch s.plan before) (cutting s.plan before) before (c.cuts.ensures.of s.plan h)
     (c.cuts.ensures.stands s (last_stretch s.plan before) (cutting s.plan before) before shows.stands) ok in record {
-  cutter =
-      subst (λ (ms : List Mark). CutterShows new.cutter (rule_of s.plan) ms) (sym (marks_push s.plan before p))
-      (subst (λ (cutter : Cutter). CutterShows cutter (rule_of s.plan) (mark_of s.plan p ∷ marks)) (sym c.write.ensures.cutter) (asks.shows marks shows.cutter));
-  stands =
-      subst (λ (l : List Packet). Stands new s l (cutting s.plan (before ++ p ∷ [])) (before ++ p ∷ [])) (sym (stretch_stay s.plan before p stay))
-      (subst (λ (l : List Packet). Stands new s (last_stretch s.plan before ++ p ∷ []) l (before ++ p ∷ [])) (sym (cutting_stay s.plan before p stay)) stands);
-}
+      cutter =
+          subst (λ (ms : List Mark). CutterShows new.cutter (rule_of s.plan) ms) (sym (marks_push s.plan before p))
+          (subst (λ (cutter : Cutter). CutterShows cutter (rule_of s.plan) (mark_of s.plan p ∷ marks)) (sym c.write.ensures.cutter) (asks.shows marks shows.cutter));
+      stands =
+          subst (λ (l : List Packet). Stands new s l (cutting s.plan (before ++ p ∷ [])) (before ++ p ∷ [])) (sym (stretch_stay s.plan before p stay))
+          (subst (λ (l : List Packet). Stands new s (last_stretch s.plan before ++ p ∷ []) l (before ++ p ∷ [])) (sym (cutting_stay s.plan before p stay)) stands);
+    }
 
 pub returns-then-cuts-clause-run : goal.returns-then-cuts-clause-run
 returns-then-cuts-clause-run g c = λ s before h shows.

@@ -44,13 +44,13 @@ returns-in-Some-clause-stands g c = λ s stretch cutters before h st ok.
     let passed = base_is c.in-Some.base c.pass.new.self.base (c.pass.new.self.base_near c.in-Some.base c.in-Some.is) c.in-Some.is ∙ base in
     let stands = subst (λ (m : FileMux). FileAfter (lowered reset stretch) m) (sym c.pass.ensures.kept) st.file in
     let l = c.pass.ensures.lists s cutters before st.lists in record {
-  file =
-      subst (λ (ps : List Packet). FileAfter ps c.put_lowered.new.self) (sym (lowered_push reset stretch p))
-      (subst (λ (b : Option ℤ). FileAfter (lowered reset stretch ++ lowered_by b p ∷ []) c.put_lowered.new.self) passed (c.put_lowered.ensures.after (lowered reset stretch) stands ok));
-  base = base;
-  next = c.pass.ensures.next ∙ st.next;
-  lists = record { number = l.number; template = l.template; timeline = l.timeline; first = l.first };
-}
+      file =
+          subst (λ (ps : List Packet). FileAfter ps c.put_lowered.new.self) (sym (lowered_push reset stretch p))
+          (subst (λ (b : Option ℤ). FileAfter (lowered reset stretch ++ lowered_by b p ∷ []) c.put_lowered.new.self) passed (c.put_lowered.ensures.after (lowered reset stretch) stands ok));
+      base = base;
+      next = c.pass.ensures.next ∙ st.next;
+      lists = record { number = l.number; template = l.template; timeline = l.timeline; first = l.first };
+    }
 
 pub returns-in-None-clause-stands : goal.returns-in-None-clause-stands
 returns-in-None-clause-stands g c = λ s stretch cutters before h st ok.
@@ -60,13 +60,13 @@ returns-in-None-clause-stands g c = λ s stretch cutters before h st ok.
     let passed : None ≡ base_of reset (stretch ++ p ∷ []) = sym c.in-None.is ∙ base in
     let stands = subst (λ (m : FileMux). FileAfter (lowered reset stretch) m) (sym c.pass.ensures.kept) st.file in
     let l = c.pass.ensures.lists s cutters before st.lists in record {
-  file =
-      subst (λ (ps : List Packet). FileAfter ps c.put.new.self) (sym (lowered_push reset stretch p))
-      (subst (λ (b : Option ℤ). FileAfter (lowered reset stretch ++ lowered_by b p ∷ []) c.put.new.self) passed (c.put.ensures.after (lowered reset stretch) stands ok));
-  base = base;
-  next = c.pass.ensures.next ∙ st.next;
-  lists = record { number = l.number; template = l.template; timeline = l.timeline; first = l.first };
-}
+      file =
+          subst (λ (ps : List Packet). FileAfter ps c.put.new.self) (sym (lowered_push reset stretch p))
+          (subst (λ (b : Option ℤ). FileAfter (lowered reset stretch ++ lowered_by b p ∷ []) c.put.new.self) passed (c.put.ensures.after (lowered reset stretch) stands ok));
+      base = base;
+      next = c.pass.ensures.next ∙ st.next;
+      lists = record { number = l.number; template = l.template; timeline = l.timeline; first = l.first };
+    }
 
 pub returns-in-Some-clause-run : goal.returns-in-Some-clause-run
 returns-in-Some-clause-run g c = λ s stretch cutters before h st.
