@@ -1,26 +1,24 @@
 -- The calls of a packet end in a write, and those of a list leave the shelf idle.
-use Rattle.std.proofs.Common.{◌≡◌, ℕ, Bool, true, false, ◌&&◌, List, [], ◌∷◌, ◌++◌, refl, ap, ◌∙◌, ℤ, Option, Some, None, Result}
+use Rattle.std.proofs.Common.{◌≡◌, ℕ, Bool, true, false, ◌&&◌, List, [], ◌∷◌, refl, ◌∙◌, ℤ, Option, Some, None, Result}
 use Rattle.std.specs.Prelude.{is_ok, map}
 use Rattle.playlist.specs.declared.list.ListEntry.{ListEntry}
 use Rattle.playlist.specs.declared.list.ListKind.{ListKind}
 use Rattle.playlist.specs.List.{list_calls, list_text}
 use Rattle.playlist.specs.Template.{TemplateParts}
 use Rattle.rmx_edge.specs.declared.shelf.ShelfFault.{ShelfFault}
-use Rattle.rmx_edge.specs.Shelf.{ShelfState, ShelfCall, Create, Write, Close}
+use Rattle.rmx_edge.specs.Shelf.{ShelfState, Create, Write, Close}
 use Rattle.rmx_edge.specs.Pieces.{EndsInWrite}
 use Rattle.rmx_edge.specs.Run.{Runs}
 use Rattle.rmx_edge.proofs.Run.{writing_after-append}
-use Rattle.rmx_edge.proofs.PieceLemmas.{ends-append}
 use Rattle.rmx_media.specs.declared.packet.Format.{Format}
 use Rattle.rmx_media.specs.declared.packet.Format.TheVariants.{Flv, Adts, Mpegts, Segment}
 use Rattle.rmx_media.specs.declared.packet.Packet.{Packet}
 use Rattle.rmx_media.specs.declared.streams.MuxStreams.{MuxStreams}
-use Rattle.rmx_media.specs.Fits.{Fits, FitsLowered}
+use Rattle.rmx_media.specs.Fits.{Fits}
 use Rattle.aac_adts.proofs.Ends.{put_ends as adts_put_ends}
 use Rattle.flv_mux.proofs.Ends.{put_ends as flv_put_ends}
 use Rattle.ts_mux.proofs.EndLemmas.{put_ends as ts_put_ends}
-use Rattle.segmenter.specs.FileMux.{put_of, IsFileMuxOf}
-use Rattle.segmenter.specs.declared.file_mux.FileMux.{FileMux}
+use Rattle.segmenter.specs.FileMux.{put_of}
 use Rattle.segmenter.specs.Times.{lowered_by}
 use Rattle.segmenter.proofs.TimesLemmas.{fits_itself}
 

@@ -1,6 +1,6 @@
 -- Which of a file's calls create it.
-use Rattle.std.proofs.Common.{◌≡◌, ℕ, ◌+◌, arith, Bool, true, false, if◌then◌else◌, List, [], ◌∷◌, ◌++◌, refl, ap, ◌∙◌, sym}
-use Rattle.std.specs.Prelude.{map, reverse, drop}
+use Rattle.std.proofs.Common.{◌≡◌, ℕ, arith, Bool, true, false, if◌then◌else◌, List, [], ◌∷◌, refl, ◌∙◌}
+use Rattle.std.specs.Prelude.{map, reverse}
 use Rattle.rmx_edge.specs.Shelf.{ShelfCall, Create, Write, Close}
 use Rattle.rmx_edge.specs.Pieces.{writes}
 use Rattle.rmx_media.specs.declared.packet.Format.{Format}

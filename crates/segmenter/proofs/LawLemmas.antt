@@ -1,12 +1,12 @@
 -- A session is whole files and the list.
-use Rattle.std.proofs.Common.{◌≡◌, ◌+◌, ℕ, Bool, true, false, if◌then◌else◌, List, [], ◌∷◌, ◌++◌, length, refl, ap, ◌∙◌, sym, subst, append-nil, append_assoc, length-append}
+use Rattle.std.proofs.Common.{◌≡◌, ◌+◌, ℕ, Bool, true, false, if◌then◌else◌, List, [], ◌∷◌, ◌++◌, length, refl, ap, ◌∙◌, sym, append-nil, append_assoc, length-append}
 use Rattle.rmx_edge.specs.Count.{raised}
 use Rattle.rmx_edge.specs.FileCalls.{calls_over}
 use Rattle.rmx_edge.specs.Shelf.{ShelfCall}
 use Rattle.rmx_edge.proofs.HistoryRuns.{calls_over-append}
 use Rattle.rmx_edge.proofs.Run.{raised-raised}
 use Rattle.rmx_media.specs.declared.packet.Packet.{Packet}
-use Rattle.segmenter.specs.Calls.{begin_file, put_in_file, end_file, begin_calls, put_calls, end_calls, list_by, whole_file, whole_files}
+use Rattle.segmenter.specs.Calls.{begin_file, put_in_file, end_file, put_calls, end_calls, list_by, whole_file, whole_files}
 use Rattle.segmenter.specs.FileMux.{put_of}
 use Rattle.segmenter.specs.Laws.{SegmentsAreFiles}
 use Rattle.segmenter.specs.Session.{Plan, Session, cuts_in, cutting, last_stretch, stretches_from}

@@ -6,7 +6,7 @@ use Rattle.rmx_edge.specs.Count.{raised}
 use Rattle.rmx_media.specs.declared.packet.Packet.{Packet}
 use Rattle.segmenter.specs.Entries.{entries, entries_from, zero_of, greatest_pts}
 use Rattle.segmenter.specs.Laws.{numbers_from, ListsNameFiles}
-use Rattle.segmenter.specs.Session.{Plan, Session, cuts_in, cutting, stretches, stretches_from}
+use Rattle.segmenter.specs.Session.{Plan, cuts_in, cutting, stretches, stretches_from}
 use Rattle.segmenter.proofs.PutLemmas.{cutting_cut, cutting_stay}
 use Rattle.segmenter.proofs.SessionLemmas.{cutting_none}
 

@@ -1,12 +1,12 @@
 -- Runs that take numbers, one after another.
-use Rattle.std.proofs.Common.{◌≡◌, ℕ, ◌+◌, ◌≤◌, ◌<◌, max, min, arith, inl, inr, Bool, true, false, List, [], ◌∷◌, ◌++◌, length, refl, ap, ◌∙◌, sym, subst, append_assoc, length-append, Option, Some, None, Result, Ok, Err}
+use Rattle.std.proofs.Common.{◌≡◌, ℕ, ◌+◌, ◌≤◌, arith, inl, inr, Bool, true, false, List, [], ◌∷◌, ◌++◌, length, refl, ap, ◌∙◌, sym, subst, append_assoc, Result, Ok, Err}
 use Rattle.std.specs.Prelude.{map, is_ok, OnOk, IsErrOf, nat_eq, cond}
 use Rattle.rmx_edge.specs.declared.shelf.ShelfFault.{ShelfFault}
 use Rattle.rmx_edge.specs.declared.shelf.ShelfFault.TheVariants.{NoMemory}
 use Rattle.rmx_edge.specs.Count.{raised}
 use Rattle.rmx_edge.specs.Pieces.{writes, write_of}
-use Rattle.rmx_edge.specs.Run.{Stopped, Completed, Runs}
-use Rattle.rmx_edge.specs.Shelf.{ShelfCall, ShelfState, Create, Write, Close}
+use Rattle.rmx_edge.specs.Run.{Stopped, Runs}
+use Rattle.rmx_edge.specs.Shelf.{ShelfCall, ShelfState, Create, Write}
 use Rattle.rmx_edge.proofs.Run.{runs_then, runs_stopped, stopped_past}
 use Rattle.segmenter.specs.Numbers.{is_create, creates, called, NumberedRuns, RunsOrWants}
 

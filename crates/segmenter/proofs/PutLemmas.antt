@@ -1,5 +1,5 @@
 -- The calls of a packet, by whether it cuts.
-use Rattle.std.proofs.Common.{◌≡◌, ◌+◌, ℕ, Bool, true, false, ◌&&◌, if◌then◌else◌, List, [], ◌∷◌, ◌++◌, length, refl, ap, ◌∙◌, sym, subst, append-nil}
+use Rattle.std.proofs.Common.{◌≡◌, ◌+◌, Bool, true, false, ◌&&◌, if◌then◌else◌, List, [], ◌∷◌, ◌++◌, length, refl, ap, ◌∙◌, sym, subst, append-nil}
 use Rattle.rmx_edge.specs.Count.{raised}
 use Rattle.rmx_edge.specs.Shelf.{ShelfCall}
 use Rattle.rmx_edge.specs.Pieces.{EndsInWrite}

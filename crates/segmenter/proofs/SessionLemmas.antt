@@ -3,7 +3,7 @@ use Rattle.std.proofs.Common.{◌≡◌, Bool, true, false, if◌then◌else◌,
 use Rattle.std.specs.Prelude.{reverse, map}
 use Rattle.std.proofs.lemmas.List.{reverse-append}
 use Rattle.rmx_media.specs.declared.packet.Packet.{Packet}
-use Rattle.segmenter.specs.Cuts.{Mark, cuts}
+use Rattle.segmenter.specs.Cuts.{cuts}
 use Rattle.segmenter.specs.Session.{Plan, rule_of, mark_of, cuts_behind, cuts_in, cutting, cutting_behind, last_stretch, last_behind}
 
 pub reverse_push : {A : Type 0} (xs : List A) (x : A) → reverse (xs ++ x ∷ []) ≡ x ∷ reverse xs

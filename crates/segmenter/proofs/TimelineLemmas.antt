@@ -1,6 +1,6 @@
 -- One packet more on a timeline, and its entries.
-use Rattle.std.proofs.Common.{◌≡◌, ◌≢◌, ℕ, ◌+◌, ◌≤◌, max, min, arith, Bool, true, false, cond, List, [], ◌∷◌, ◌++◌, length, refl, ap, ◌∙◌, sym, subst, ℤ, pos, ◌-ℤ◌, Option, Some, None}
-use Rattle.std.specs.Prelude.{fold, int_lt}
+use Rattle.std.proofs.Common.{◌≡◌, ℕ, ◌+◌, arith, true, false, cond, List, [], ◌∷◌, ◌++◌, length, refl, ap, ◌∙◌, sym, subst, ℤ, pos, ◌-ℤ◌, Option, Some}
+use Rattle.std.specs.Prelude.{int_lt}
 use Rattle.std.specs.Int.{int_max}
 use Rattle.std.proofs.lemmas.Int.{ints}
 use Rattle.std.proofs.lemmas.List.Elements.{All-push}
@@ -8,7 +8,7 @@ use Rattle.std.proofs.lemmas.List.Sums.{fold_push}
 use Rattle.std.specs.List.{All}
 use Rattle.playlist.specs.declared.list.ListEntry.{ListEntry}
 use Rattle.playlist.specs.List.{IsInRange}
-use Rattle.rmx_edge.specs.Count.{raised, most}
+use Rattle.rmx_edge.specs.Count.{raised}
 use Rattle.rmx_edge.proofs.Run.{raised-raised}
 use Rattle.rmx_media.specs.declared.packet.Packet.{Packet}
 use Rattle.segmenter.specs.Entries.{entry, entries_from, zero_of, greatest_pts}

@@ -1,6 +1,5 @@
 -- Times that are lowered, one packet more.
-use Rattle.std.proofs.Common.{◌≡◌, ℕ, arith, Bool, true, false, if◌then◌else◌, List, [], ◌∷◌, ◌++◌, refl, ap, ◌∙◌, sym, subst, ℤ, pos, negsuc, ◌-ℤ◌, ◌+ℤ◌, ◌≤ℤ◌, Option, Some, None, w64, of_z, to_z, SFits}
-use Rattle.std.specs.Prelude.{map}
+use Rattle.std.proofs.Common.{◌≡◌, arith, Bool, true, false, List, [], ◌∷◌, ◌++◌, refl, ap, ◌∙◌, sym, subst, ℤ, pos, negsuc, ◌-ℤ◌, ◌+ℤ◌, ◌≤ℤ◌, Option, Some, None, w64, of_z, to_z, SFits}
 use Rattle.std.proofs.lemmas.List.{map-append}
 use Rattle.std.proofs.lemmas.Int.{ints, to_z-of_z}
 use Rattle.rmx_media.specs.declared.packet.Format.{Format}
@@ -9,7 +8,7 @@ use Rattle.rmx_media.specs.declared.streams.MuxStreams.{MuxStreams}
 use Rattle.rmx_media.specs.declared.packet.Format.TheVariants.{Flv, Adts, Mpegts, Segment}
 use Rattle.rmx_media.specs.Fits.{Suits, Fits, FitsLowered}
 use Rattle.segmenter.specs.Near.{IsNear, IsDts}
-use Rattle.segmenter.specs.Times.{lowered_by, first_dts, base_of, lowered}
+use Rattle.segmenter.specs.Times.{lowered_by, base_of, lowered}
 
 base_more : (reset : Bool) (q : Packet) (qs : List Packet) (p : Packet) → base_of reset ((q ∷ qs) ++ p ∷ []) ≡ base_of reset (q ∷ qs)
 base_more reset q qs p = refl

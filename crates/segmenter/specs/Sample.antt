@@ -1,5 +1,5 @@
 -- Packets of tests.
-use Rattle.std.specs.Prelude.{◌≡◌, ℕ, ◌≤◌, length, pos, negsuc, ◌≤ℤ◌, ◌+ℤ◌}
+use Rattle.std.specs.Prelude.{◌≡◌, ◌≤◌, length, pos, negsuc, ◌≤ℤ◌, ◌+ℤ◌}
 use Rattle.rmx_media.specs.declared.packet.Packet.{Packet}
 use Rattle.rmx_media.specs.declared.packet.Form.TheVariants.{Native}
 use Rattle.rmx_media.specs.declared.streams.Kind.{Kind}

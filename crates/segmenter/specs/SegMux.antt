@@ -1,5 +1,5 @@
 -- What clauses see of a muxer of segments.
-use Rattle.std.specs.Prelude.{◌≡◌, ℕ, ◌+◌, ◌==◌, Bool, List, [], ◌∷◌, ◌++◌, map, reverse, length, IsSome, Some, None}
+use Rattle.std.specs.Prelude.{◌≡◌, ℕ, ◌+◌, ◌==◌, Bool, List, [], ◌∷◌, map, reverse, length, IsSome, Some, None}
 use Rattle.playlist.specs.Template.{TemplateParts}
 use Rattle.rmx_edge.specs.Count.{raised}
 use Rattle.rmx_media.specs.declared.packet.Packet.{Packet}

@@ -1,4 +1,4 @@
-use Rattle.std.proofs.Common.{◌≡◌, List, [], ◌∷◌, ◌++◌, sym, subst, Some}
+use Rattle.std.proofs.Common.{[], ◌∷◌, ◌++◌, sym, subst, Some}
 use Rattle.rmx_media.specs.declared.packet.Format.{Format}
 use Rattle.rmx_media.specs.declared.packet.Format.TheVariants.{Flv, Mpegts}
 use Rattle.rmx_media.specs.declared.packet.Packet.{Packet}

@@ -1,4 +1,4 @@
-use Rattle.std.proofs.Common.{rules, ◌≡◌, ◌∙◌, ap, sym, subst, refl, inl, List, ℕ, [], ◌∷◌, true, false}
+use Rattle.std.proofs.Common.{rules, ◌≡◌, ◌∙◌, ap, sym, subst, refl, inl, List, ℕ, [], true}
 use Rattle.std.specs.Prelude.{is_ok}
 use Rattle.rmx_edge.specs.Run.{Runs}
 use Rattle.playlist.specs.declared.seg_options.SegOptions.{SegOptions}

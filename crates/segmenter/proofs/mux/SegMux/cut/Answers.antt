@@ -1,4 +1,4 @@
-use Rattle.std.proofs.Common.{rules, ◌≡◌, ◌∙◌, ◌+◌, ap, sym, subst, arith, List, ℕ, [], ◌∷◌, ◌++◌, length, true, length-append}
+use Rattle.std.proofs.Common.{rules, ◌≡◌, ◌∙◌, ◌+◌, ap, sym, subst, ℕ, [], ◌∷◌, ◌++◌, length, true, length-append}
 use Rattle.std.specs.Prelude.{is_ok}
 use Rattle.rmx_edge.specs.Count.{raised}
 use Rattle.rmx_edge.proofs.Run.{raised-raised}

@@ -1,4 +1,4 @@
-use Rattle.std.proofs.Common.{◌≡◌, ◌∙◌, ap, sym, subst, List, [], ◌∷◌, ◌++◌, ℤ, Option, Some, None, to_z, of_z, w64}
+use Rattle.std.proofs.Common.{◌≡◌, ◌∙◌, sym, subst, List, [], ◌∷◌, ◌++◌, ℤ, Option, None, to_z, of_z, w64}
 use Rattle.rmx_edge.specs.Run.{Runs}
 use Rattle.rmx_media.specs.declared.packet.Packet.{Packet}
 use Rattle.segmenter.specs.FileMux.{put_of, FileAfter}

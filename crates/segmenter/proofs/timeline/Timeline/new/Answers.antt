@@ -1,4 +1,4 @@
-use Rattle.std.proofs.Common.{rules, ◌≡◌, [], refl}
+use Rattle.std.proofs.Common.{rules, refl}
 use Rattle.segmenter.specs.Entries.{greatest_pts}
 use Rattle.segmenter.proofs.TimelineLemmas.{none_in_range}
 use Rattle.segmenter.proofs.timeline.Timeline.new.Goals as goal
