@@ -150,5 +150,6 @@ impl FlvMux {
 fn time_past(time: i64, p: &Timed) -> i64
     ensures { result ≡ (if is_video (kind_of p.now.packet.now.config) then p.now.dts else time) }
 {
-    if is_avc(&p.packet.config) { p.dts } else { time }
+    let video = is_avc(&p.packet.config);
+    if video { p.dts } else { time }
 }

@@ -15,7 +15,11 @@ use rmx_edge::{Shelf, ShelfFault, write_piece};
 use rmx_media::{Config, MuxStreams};
 
 /// Writes a packet, behind its configuration where that changed.
-pub(crate) fn write_packet<S: Shelf>(shelf: &mut S, p: &Timed, changed: bool) -> Result<(), ShelfFault>
+pub(crate) fn write_packet<S: Shelf>(
+    shelf: &mut S,
+    p: &Timed,
+    changed: bool,
+) -> Result<(), ShelfFault>
     requires begun { (S.state shelf.old).writing ≡ true }
     requires fits { CanWrite (packet_of p.now) }
     ensures run { Runs (writes (if changed then config_pieces p.now.dts p.now.packet.now.config ++ media_pieces (packet_of p.now) else media_pieces (packet_of p.now))) result (S.state shelf.old) (S.state shelf.new) }
