@@ -30,6 +30,10 @@ pub enum BsfFault {
 }
 
 impl Default for Filter {
+    ghost use Rattle.bsf_chain.specs.declared.filter.Filter.TheVariants.{Null};
+
+    ghost is_default = { λ filter. filter ≡ Null };
+
     fn default() -> Filter {
         Filter::Null
     }

@@ -1,20 +1,15 @@
 // Worked cases.
 ghost use Rattle.std.specs.Prelude.{◌≡◌, IfOk};
+ghost use Rattle.rmx_media.specs.Config.{IsReadAvc};
 
 use crate::*;
 use avc_units::valid_units;
 use bytes::Bytes;
 use rmx_media::{
-    Config, Form, Kind, NoMemory, Packet, StreamInfo, read_aac_config, read_avc_config,
+    AvcConfig, Config, Form, Kind, NoMemory, Packet, StreamInfo, read_aac_config, read_avc_config,
 };
 use std::alloc::Global;
 use std::test::Fail;
-
-// An AVC configuration with one set of each kind.
-const AVC: [u8; 17] = [
-    0x01, 0x42, 0x00, 0x1E, 0xFF, 0xE1, 0x00, 0x04, 0x67, 0x42, 0x00, 0x1E, 0x01, 0x00, 0x02, 0x68,
-    0xCE,
-];
 
 fn bytes(alloc: Global, list: &[u8]) -> Result<Bytes, NoMemory>
     ensures { IfOk result (λ b. b ≡ list.now) }
@@ -46,6 +41,19 @@ fn texts(rt: HostRuntime) -> Result<(), Fail> {
             Some(BsfFault::BadArgument),
         ),
         (b"null=".as_slice(), Some(BsfFault::BadArgument)),
+        // Sixteen filters, and a seventeenth, whatever it is called.
+        (
+            b"null,null,null,null,null,null,null,null,null,null,null,null,null,null,null,null".as_slice(),
+            None,
+        ),
+        (
+            b"null,null,null,null,null,null,null,null,null,null,null,null,null,null,null,null,null".as_slice(),
+            Some(BsfFault::BadArgument),
+        ),
+        (
+            b"null,null,null,null,null,null,null,null,null,null,null,null,null,null,null,null,foo".as_slice(),
+            Some(BsfFault::BadArgument),
+        ),
         (b"dump_extra=freq=x".as_slice(), Some(BsfFault::BadArgument)),
     ] {
         assert_eq!(rt; Chain::parse(text).err(), expected);
@@ -53,10 +61,26 @@ fn texts(rt: HostRuntime) -> Result<(), Fail> {
     Ok(())
 }
 
-// What a chain leaves of a video packet with these units behind length fields of four bytes.
-fn left(alloc: Global, text: &[u8], payload: &[u8], key: bool) -> Result<Option<Packet>, Fail> {
-    let config = read_avc_config(bytes(alloc, &AVC)?)?;
-    if config.length_size != 4 || !valid_units(payload, config.length_size) {
+fn avc_config(alloc: Global, raw: &[u8]) -> Result<AvcConfig, Fail>
+    ensures { IfOk result IsReadAvc }
+{
+    if raw.len() > 100 {
+        return Err(Fail::from("a long configuration"));
+    }
+    let raw = bytes(alloc, raw)?;
+    Ok(read_avc_config(raw)?)
+}
+
+// What a chain leaves of a video packet under this configuration.
+fn left(
+    alloc: Global,
+    raw: &[u8],
+    chain: &Chain,
+    payload: &[u8],
+    key: bool,
+) -> Result<Option<Packet>, Fail> {
+    let config = avc_config(alloc, raw)?;
+    if !valid_units(payload, config.length_size) {
         return Err(Fail::from("no payload"));
     }
     let info = StreamInfo {
@@ -73,61 +97,193 @@ fn left(alloc: Global, text: &[u8], payload: &[u8], key: bool) -> Result<Option<
         config: Config::Avc(config),
         version: 1,
     };
-    Ok(Chain::parse(text)?.apply(alloc, &info, &packet)?)
+    Ok(chain.apply(alloc, &info, &packet)?)
+}
+
+// Sets `67 01` and `68 02`, behind length fields of one to four bytes.
+const ONE: &[u8] = b"\x01\x42\x00\x1E\xFC\xE1\x00\x02\x67\x01\x01\x00\x02\x68\x02";
+
+const TWO: &[u8] = b"\x01\x42\x00\x1E\xFD\xE1\x00\x02\x67\x01\x01\x00\x02\x68\x02";
+
+const THREE: &[u8] = b"\x01\x42\x00\x1E\xFE\xE1\x00\x02\x67\x01\x01\x00\x02\x68\x02";
+
+const FOUR: &[u8] = b"\x01\x42\x00\x1E\xFF\xE1\x00\x02\x67\x01\x01\x00\x02\x68\x02";
+// The first set is empty, and no set at all; behind length fields of one byte.
+const HALF: &[u8] = b"\x01\x42\x00\x1E\xFC\xE1\x00\x00\x01\x00\x02\x68\x02";
+
+const BARE: &[u8] = b"\x01\x42\x00\x1E\xFC\xE0\x00";
+
+#[test]
+fn native_video(rt: HostRuntime) -> Result<(), Fail> {
+    let drop_six = b"filter_units=remove_types=6".as_slice();
+    let keep_all = b"filter_units=pass_types=0-31".as_slice();
+    for (raw, text, payload, expected) in [
+        (
+            ONE,
+            drop_six,
+            b"\x02\x06\x05\x02\x65\x88".as_slice(),
+            b"\x02\x65\x88".as_slice(),
+        ),
+        (
+            TWO,
+            drop_six,
+            b"\x00\x02\x06\x05\x00\x02\x65\x88".as_slice(),
+            b"\x00\x02\x65\x88".as_slice(),
+        ),
+        (
+            THREE,
+            drop_six,
+            b"\x00\x00\x02\x06\x05\x00\x00\x02\x65\x88".as_slice(),
+            b"\x00\x00\x02\x65\x88".as_slice(),
+        ),
+        (
+            FOUR,
+            drop_six,
+            b"\x00\x00\x00\x02\x06\x05\x00\x00\x00\x02\x65\x88".as_slice(),
+            b"\x00\x00\x00\x02\x65\x88".as_slice(),
+        ),
+        // An empty unit stays where no filter acts, and goes with the first that does.
+        (
+            ONE,
+            b"null,aac_adts".as_slice(),
+            b"\x00\x01\x65\x00".as_slice(),
+            b"\x00\x01\x65\x00".as_slice(),
+        ),
+        (
+            ONE,
+            keep_all,
+            b"\x00\x01\x65\x00".as_slice(),
+            b"\x01\x65".as_slice(),
+        ),
+    ] {
+        let chain = Chain::parse(text)?;
+        let Some(packet) = left(rt.alloc(), raw, &chain, payload, true)? else {
+            return Err(Fail::from("dropped"));
+        };
+        assert_eq!(rt; packet.payload.as_slice(), expected);
+        assert_eq!(rt; packet.form, Form::Native);
+        assert_eq!(rt; (packet.dts, packet.pts, packet.version), (40, 80, 1));
+    }
+    let chain = Chain::parse(drop_six)?;
+    assert!(rt; left(rt.alloc(), ONE, &chain, b"\x02\x06\x05", true)?.is_none());
+    Ok(())
 }
 
 #[test]
-fn video(rt: HostRuntime) -> Result<(), Fail> {
-    let alloc = rt.alloc();
-    let units = [0, 0, 0, 2, 0x06, 0x05, 0, 0, 0, 2, 0x65, 0x88];
-    let starts = [
-        0, 0, 0, 1, 0x67, 0x42, 0, 0x1E, 0, 0, 0, 1, 0x68, 0xCE, 0, 0, 0, 1, 0x65, 0x88,
-    ];
-    for (text, key, form, expected) in [
-        (b"null".as_slice(), true, Form::Native, units.as_slice()),
+fn video_behind_start_codes(rt: HostRuntime) -> Result<(), Fail> {
+    let start = b"h264_mp4toannexb".as_slice();
+    let dump = b"dump_extra".as_slice();
+    for (raw, text, key, payload, expected) in [
+        // The sets go before the first unit of type 5, unless a unit has type 7.
         (
-            b"filter_units=remove_types=6".as_slice(),
+            ONE,
+            start,
             true,
-            Form::Native,
-            [0, 0, 0, 2, 0x65, 0x88].as_slice(),
+            b"\x02\x09\xF0\x00\x01\x65\x01\x65".as_slice(),
+            b"\0\0\0\x01\x09\xF0\0\0\0\x01\x67\x01\0\0\0\x01\x68\x02\0\0\0\x01\x65\0\0\0\x01\x65".as_slice(),
         ),
         (
-            b"filter_units=pass_types=5,h264_mp4toannexb".as_slice(),
+            ONE,
+            start,
             true,
-            Form::AnnexB,
-            starts.as_slice(),
+            b"\x01\x67\x01\x65".as_slice(),
+            b"\0\0\0\x01\x67\0\0\0\x01\x65".as_slice(),
         ),
         (
-            b"filter_units=pass_types=5,dump_extra".as_slice(),
+            ONE,
+            start,
             true,
-            Form::AnnexB,
-            starts.as_slice(),
+            b"\x01\x41".as_slice(),
+            b"\0\0\0\x01\x41".as_slice(),
         ),
         (
-            b"filter_units=pass_types=5,dump_extra".as_slice(),
+            ONE,
+            start,
+            true,
+            b"\x01\x67".as_slice(),
+            b"\0\0\0\x01\x67".as_slice(),
+        ),
+        // The sets stand in front of a key packet once.
+        (
+            ONE,
+            dump,
+            true,
+            b"\x01\x41".as_slice(),
+            b"\0\0\0\x01\x67\x01\0\0\0\x01\x68\x02\0\0\0\x01\x41".as_slice(),
+        ),
+        (
+            ONE,
+            dump,
+            true,
+            b"\x02\x67\x01\x02\x68\x02".as_slice(),
+            b"\0\0\0\x01\x67\x01\0\0\0\x01\x68\x02".as_slice(),
+        ),
+        (
+            ONE,
+            dump,
+            true,
+            b"\x02\x67\x01".as_slice(),
+            b"\0\0\0\x01\x67\x01\0\0\0\x01\x68\x02\0\0\0\x01\x67\x01".as_slice(),
+        ),
+        (
+            ONE,
+            dump,
             false,
-            Form::AnnexB,
-            [0, 0, 0, 1, 0x65, 0x88].as_slice(),
+            b"\x01\x65".as_slice(),
+            b"\0\0\0\x01\x65".as_slice(),
+        ),
+        // What stands behind start codes already gets no sets.
+        (
+            ONE,
+            b"dump_extra,h264_mp4toannexb".as_slice(),
+            false,
+            b"\x01\x65".as_slice(),
+            b"\0\0\0\x01\x65".as_slice(),
+        ),
+        // Empty sets are left out, and no sets are in front of everything.
+        (
+            HALF,
+            start,
+            false,
+            b"\x01\x65".as_slice(),
+            b"\0\0\0\x01\x68\x02\0\0\0\x01\x65".as_slice(),
+        ),
+        (
+            BARE,
+            dump,
+            true,
+            b"\x01\x65".as_slice(),
+            b"\0\0\0\x01\x65".as_slice(),
         ),
     ] {
-        match left(alloc, text, &units, key)? {
-            Some(packet) => {
-                assert_eq!(rt; packet.payload.as_slice(), expected);
-                assert_eq!(rt; packet.form, form);
-                assert_eq!(rt; packet.pts, 80);
-            }
-            None => return Err(Fail::from("dropped")),
-        }
+        let chain = Chain::parse(text)?;
+        let Some(packet) = left(rt.alloc(), raw, &chain, payload, key)? else {
+            return Err(Fail::from("dropped"));
+        };
+        assert_eq!(rt; packet.payload.as_slice(), expected);
+        assert_eq!(rt; packet.form, Form::AnnexB);
     }
-    assert!(rt;
-        left(
-            alloc,
-            b"filter_units=remove_types=6",
-            &[0, 0, 0, 2, 0x06, 0x05],
-            true
-        )?
-        .is_none()
-    );
+    Ok(())
+}
+
+#[test]
+fn joined_chains(rt: HostRuntime) -> Result<(), Fail> {
+    let dump = Chain::parse(b"dump_extra")?;
+    let drop_sets = Chain::parse(b"filter_units=remove_types=7-8")?;
+    let bare = b"\0\0\0\x01\x65".as_slice();
+    let whole = b"\0\0\0\x01\x67\x01\0\0\0\x01\x68\x02\0\0\0\x01\x65".as_slice();
+    for (first, second, expected) in [(&dump, &drop_sets, bare), (&drop_sets, &dump, whole)] {
+        let chain = first.join(second).ok_or("too many")?;
+        let Some(packet) = left(rt.alloc(), ONE, &chain, b"\x01\x65", true)? else {
+            return Err(Fail::from("dropped"));
+        };
+        assert_eq!(rt; packet.payload.as_slice(), expected);
+    }
+    let eight = Chain::parse(b"null,null,null,null,null,null,null,null")?;
+    let sixteen = eight.join(&eight).ok_or("too many")?;
+    assert!(rt; sixteen.join(&Chain::empty()).is_some());
+    assert!(rt; sixteen.join(&dump).is_none());
+    assert!(rt; dump.join(&sixteen).is_none());
     Ok(())
 }
 

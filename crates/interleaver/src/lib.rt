@@ -7,6 +7,8 @@ ghost use Rattle.rmx_media.specs.declared.packet.Packet.{Packet};
 
 pub mod laws;
 mod queues;
+#[cfg(test)]
+mod tests;
 
 use queues::{may_leave, take_head};
 use rmx_media::{NoMemory, Packet};
