@@ -132,7 +132,7 @@ impl SegMux {
     {
         match self.file.end(shelf) {
             Ok(()) => self.write_list(shelf),
-            Err(fault) => Err(fault),
+            Err(refusal) => Err(refusal),
         }
     }
 
