@@ -140,6 +140,14 @@ impl<S: Shelf> SlaveJob<S> {
         ensures { (g : Origin) (o : FifoOptions) (L : List Packet) (k : Keeps g o L (view_of S.state self.now))
             → result ≡ mode_is_dead (mode_of o k.history) }
     {
+        self.is_given_up()
+    }
+
+    /// The same for packets with gaps.
+    pub fn is_given_up(&self) -> bool
+        ensures { (g : Origin) (o : FifoOptions) (T : List Given) (k : KeepsAll g o T (view_of S.state self.now))
+            → result ≡ mode_is_dead (mode_of o k.history) }
+    {
         self.fifo.is_dead()
     }
 
