@@ -1,17 +1,17 @@
 -- An output that is given packets without gaps.
-use Rattle.std.proofs.Common.{◌≡◌, ℕ, zero, suc, ◌+◌, ◌-◌, inl, inr, ◌&&◌, List, [], ◌∷◌, ◌++◌, length, map, slice_get, Some, refl, ap, sym, ◌∙◌, subst, arith, append_assoc}
+use Rattle.std.proofs.Common.{◌≡◌, ℕ, suc, ◌+◌, ◌-◌, inl, inr, ◌&&◌, List, [], ◌∷◌, ◌++◌, length, map, slice_get, Some, refl, ap, sym, ◌∙◌, subst, arith}
 use Rattle.std.proofs.lemmas.List.{append-nil}
 use Rattle.fifo_core.specs.declared.types.FifoOptions.{FifoOptions}
 use Rattle.fifo_core.specs.declared.types.Fate.{Fate}
 use Rattle.fifo_core.specs.History.{Begun, Tried, Fated, Want, History, fates_of}
-use Rattle.fifo_core.specs.Follows.{Turn, Comes, Follows}
+use Rattle.fifo_core.specs.Follows.{Turn, Comes}
 use Rattle.rmx_media.specs.declared.packet.Packet.{Packet}
 use Rattle.slave.specs.Origin.{Origin, facts_of}
-use Rattle.slave.specs.Given.{Given, Sent, Swept, index_of, turn_of, end_from, Gives, sent_from, IsGapless}
-use Rattle.slave.specs.Runs.{spread, gap_count, gap_after, is_no_memory, pushed, AreInOrder}
+use Rattle.slave.specs.Given.{Given, Sent, index_of, turn_of, end_from, Gives, sent_from, IsGapless}
+use Rattle.slave.specs.Runs.{gap_count, gap_after, is_no_memory, AreInOrder}
 use Rattle.slave.specs.Job.{JobView}
-use Rattle.slave.specs.Table.{AllRows, StandsAt, if_written, written_of, written_among, covered, indices, Indexed, turns_from, Keeps, KeepsAll, Grows, GrowsAll}
-use Rattle.slave.specs.End.{EndView, Ended, EndedBy, EndedAllBy}
+use Rattle.slave.specs.Table.{StandsAt, if_written, written_of, written_among, covered, indices, Indexed, turns_from, Keeps, KeepsAll, Grows, GrowsAll}
+use Rattle.slave.specs.End.{EndView, EndedBy, EndedAllBy}
 use Rattle.slave.proofs.Lists.{no_gap}
 use Rattle.slave.proofs.Rows.{rows_other}
 

@@ -1,6 +1,5 @@
 -- Room for a run is refused only where memory was wanted for good, or a fault came.
-use Rattle.std.proofs.Common.{◌≡◌, ℕ, zero, suc, ◌+◌, ◌≤◌, inl, inr, Bool, true, false, ◌⊎◌, List, [], ◌∷◌, ◌++◌, length, map, refl, ap, sym, ◌∙◌, subst, arith, append_assoc}
-use Rattle.std.proofs.lemmas.List.{append-nil}
+use Rattle.std.proofs.Common.{◌≡◌, ℕ, suc, ◌+◌, inl, inr, Bool, true, false, ◌⊎◌, List, [], ◌∷◌, ◌++◌, length, map, refl, ap, sym, ◌∙◌, subst, arith}
 use Rattle.fifo_core.specs.declared.types.FifoOptions.{FifoOptions}
 use Rattle.fifo_core.specs.declared.types.PacketFacts.{PacketFacts}
 use Rattle.fifo_core.specs.declared.types.Answer.TheVariants as answer
@@ -14,7 +13,7 @@ use Rattle.rmx_edge.specs.Count.{Rose}
 use Rattle.rmx_media.specs.declared.packet.Packet.{Packet}
 use Rattle.slave.specs.declared.records.Run.{Run}
 use Rattle.slave.specs.Origin.{Origin, facts_of}
-use Rattle.slave.specs.Runs.{spread, expand, Joins, InOrder}
+use Rattle.slave.specs.Runs.{expand, Joins, InOrder}
 use Rattle.slave.specs.Job.{JobView, MakesRoom}
 use Rattle.slave.specs.Table.{Keeps, KeepsAll, Stands, NotesTell, turns_from, expected_in}
 use Rattle.slave.specs.Given.{Given, Sent, Swept, index_of, turn_of, end_from, sent_from, IsGapless}

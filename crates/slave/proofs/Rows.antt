@@ -1,5 +1,5 @@
 -- Tables of sessions, by their last row.
-use Rattle.std.proofs.Common.{◌≡◌, ℕ, zero, suc, inl, inr, List, [], ◌∷◌, ◌++◌, length, map, flat_map, filter_map, slice_get, Option, Some, None, refl, ap, sym, ◌∙◌, arith, append_assoc, ◌+◌}
+use Rattle.std.proofs.Common.{◌≡◌, ℕ, inl, inr, List, [], ◌∷◌, ◌++◌, length, map, flat_map, filter_map, Option, Some, None, refl, ap, sym, ◌∙◌, arith, append_assoc, ◌+◌}
 use Rattle.std.proofs.lemmas.List.{append-nil}
 use Rattle.std.specs.List.{cons_option}
 use Rattle.fifo_core.specs.declared.types.Fate.{Fate}
@@ -11,7 +11,7 @@ use Rattle.slave.specs.Origin.{Origin}
 use Rattle.slave.specs.declared.records.FaultNote.{FaultNote}
 use Rattle.slave.specs.Calls.{put_calls, puts}
 use Rattle.slave.specs.Given.{Given, Sent, Swept, index_of, end_from, Gives, sent_from, IsGapless}
-use Rattle.slave.specs.Table.{Outcome, Open, NotBegun, PutFailed, EndFailed, Closed, Row, LeftBy, NoteFits, RowHolds, AllRows, Chain, row_fault, row_packets, if_given, written_of, written_among, indices, Numbered, Indexed, StandsAt}
+use Rattle.slave.specs.Table.{Outcome, Open, NotBegun, PutFailed, EndFailed, Closed, Row, LeftBy, NoteFits, RowHolds, AllRows, Chain, row_fault, row_packets, if_given, written_among, indices, Numbered}
 
 pub map_push : {A B : Type 0} (f : A → B) (xs : List A) (x : A) → map f (xs ++ x ∷ []) ≡ map f xs ++ f x ∷ []
 map_push f [] x = refl

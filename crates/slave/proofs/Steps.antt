@@ -1,5 +1,5 @@
 -- What each step does to the table of sessions.
-use Rattle.std.proofs.Common.{◌≡◌, ◌≢◌, ℕ, ◌≤◌, inl, inr, Bool, true, false, List, [], ◌∷◌, ◌++◌, length, flat_map, filter_map, slice_get, Some, None, refl, ap, sym, ◌∙◌, subst, arith, append_assoc, ◌+◌, length-append}
+use Rattle.std.proofs.Common.{◌≡◌, ◌≢◌, ℕ, ◌≤◌, inl, inr, Bool, true, false, List, [], ◌∷◌, ◌++◌, length, flat_map, filter_map, Some, None, refl, ap, sym, ◌∙◌, subst, arith, append_assoc, ◌+◌, length-append}
 use Rattle.std.proofs.lemmas.List.{append-nil}
 use Rattle.fifo_core.specs.declared.types.FifoOptions.{FifoOptions}
 use Rattle.fifo_core.specs.declared.types.PacketFacts.{PacketFacts}

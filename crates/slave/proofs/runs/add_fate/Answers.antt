@@ -1,5 +1,5 @@
 use Rattle.std.proofs.Common.{sym, ◌∙◌, ◌≡◌, true, false}
-use Rattle.slave.proofs.Lists.{same_ends, pushed_push, pushed_first, expand_join, ordered_push, ordered_join}
+use Rattle.slave.proofs.Lists.{same_ends, pushed_push, expand_join, ordered_push, ordered_join}
 use Rattle.slave.proofs.runs.add_fate.Goals as goal
 
 pub returns-then-joins-clause-fates : goal.returns-then-joins-clause-fates

@@ -1,4 +1,4 @@
-use Rattle.std.proofs.Common.{◌≡◌, ◌≤◌, List, Some}
+use Rattle.std.proofs.Common.{◌≡◌, List, Some}
 use Rattle.fifo_core.specs.declared.types.FifoOptions.{FifoOptions}
 use Rattle.rmx_media.specs.Streams.{kind_in}
 use Rattle.slave.specs.Given.{Given, end_from}
