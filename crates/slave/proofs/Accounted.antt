@@ -22,7 +22,7 @@ use Rattle.slave.specs.declared.records.FaultAt.TheVariants.{Put}
 use Rattle.slave.specs.declared.records.FaultNote.{FaultNote}
 use Rattle.slave.specs.Origin.{Origin, facts_of, video_of}
 use Rattle.slave.specs.Runs.{expand}
-use Rattle.slave.specs.Table.{turns_from, Indexed, NotesTell}
+use Rattle.slave.specs.Table.{StandsAt, turns_from, Indexed, NotesTell}
 use Rattle.slave.specs.End.{EndView, EndNotes, Ended}
 use Rattle.slave.specs.Accounts.{Has, HasPut, IsHit, IsWaiting, EndsMeetAccounts}
 use Rattle.slave.proofs.Faultless.{notes_rise}
@@ -445,6 +445,6 @@ accounts_met out o L e k = record {
   lost = lost_so k;
   after_failure = after_failure_so k;
   no_memory = no_memory_so k;
-  notes = rw k.are_faults (notes_rise out L out.shelf (with_count e.shelf k.before k.added) k.rows k.chain k.each);
+  notes = rw k.are_faults (notes_rise out (StandsAt L) out.shelf (with_count e.shelf k.before k.added) k.rows k.chain k.each);
   restart = restart_so k;
 }

@@ -23,7 +23,7 @@ use Rattle.slave.specs.declared.records.FaultNote.{FaultNote}
 use Rattle.slave.specs.declared.records.SessionNote.{SessionNote}
 use Rattle.slave.specs.Origin.{Origin, facts_of}
 use Rattle.slave.specs.Calls.{begin_calls, end_calls, puts}
-use Rattle.slave.specs.Table.{Outcome, Closed, Row, LeftBy, NoteFits, Chain, AllRows, Numbered, calls_of, row_fault, row_packets, written_of, NotesTell}
+use Rattle.slave.specs.Table.{Outcome, Closed, Row, StandsAt, LeftBy, NoteFits, Chain, AllRows, Numbered, calls_of, row_fault, row_packets, written_of, NotesTell}
 use Rattle.slave.specs.Accounts.{NotesRise}
 use Rattle.slave.specs.End.{EndsAs, EndNotes}
 use Rattle.slave.specs.Headline.{whole_file, NoFaultNoLoss}
@@ -50,12 +50,12 @@ with_note : (r : Row) (f : Option FaultNote) (ns : List FaultNote) (to : ℕ) �
 with_note r None ns to k le rest = rise_from r.before.faults r.after.faults to ns le rest
 with_note r (Some n) ns to k le rest = (k.4, k.2, note_rises n.before n.after k.2 k.3, rw k.5 rest)
 
-pub notes_rise : (out : Origin) (L : List Packet) (first now : ShelfState) (rows : List Row) → Chain first rows now → AllRows out L rows
+pub notes_rise : (out : Origin) (At : ℕ → Packet → Type 0) (first now : ShelfState) (rows : List Row) → Chain first rows now → AllRows out At rows
     → NotesRise first.faults (filter_map row_fault rows) now.faults
-notes_rise out L first now [] c a = rw c (omega arith)
-notes_rise out L first now (r ∷ rows) c a =
+notes_rise out At first now [] c a = rw c (omega arith)
+notes_rise out At first now (r ∷ rows) c a =
     subst (λ (x : ShelfState). NotesRise x.faults (filter_map row_fault (r ∷ rows)) now.faults) c.0
-    (with_note r r.fault (filter_map row_fault rows) now.faults a.0.1 a.0.2 (notes_rise out L r.after now rows c.1 a.1))
+    (with_note r r.fault (filter_map row_fault rows) now.faults a.0.1 a.0.2 (notes_rise out At r.after now rows c.1 a.1))
 
 -- where the count didn't rise there is no note
 no_notes : (a to : ℕ) (ns : List FaultNote) → NotesRise a ns to → (Rose a to → ⊥) → ns ≡ []
@@ -121,7 +121,7 @@ holds_all out o L e k no_fault no_want =
     let h = k.history in
     let r = k.last in
     let now = with_count e.shelf k.before k.added in
-    let rises : NotesRise out.shelf.faults e.faults now.faults = rw k.are_faults (notes_rise out L out.shelf now k.rows k.chain k.each) in
+    let rises : NotesRise out.shelf.faults e.faults now.faults = rw k.are_faults (notes_rise out (StandsAt L) out.shelf now k.rows k.chain k.each) in
     let none = no_notes out.shelf.faults now.faults e.faults rises no_fault in
     let fine : e.state ≡ ends.NoMemory → ⊥ = λ (x : e.state ≡ ends.NoMemory). no_want (k.excuse x none) in
     let told = told_notes h k.end_answer e.faults k.notes none in
@@ -134,8 +134,8 @@ holds_all out o L e k no_fault no_want =
     let number : r.note.number ≡ 0 = k.number ∙ whole.2 in
     let front_is : k.front ≡ [] = no_rows k.front (omega (arith, numbered_last 0 k.front r numbers, number)) in
     let rows_is : k.rows ≡ r ∷ [] = k.split ∙ rw front_is refl in
-    let all : AllRows out L (k.front ++ r ∷ []) = rw k.split at k.each in
-    let left = subst (λ (x : Outcome). LeftBy out L r x) closed (rows_last out L k.front r all).0 in
+    let all : AllRows out (StandsAt L) (k.front ++ r ∷ []) = rw k.split at k.each in
+    let left = subst (λ (x : Outcome). LeftBy out (StandsAt L) r x) closed (rows_last out (StandsAt L) k.front r all).0 in
     let chain : Chain out.shelf (r ∷ []) now = rw rows_is at k.chain in
     let packets_told : row_packets r ++ [] ≡ written_of L (fates_of h) = rw rows_is at k.packets in
     let packets : row_packets r ≡ map (λ (p : Packet). (0, p)) L

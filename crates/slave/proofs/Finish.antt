@@ -21,12 +21,13 @@ use Rattle.rmx_edge.specs.Counted.{with_count}
 use Rattle.rmx_edge.proofs.Run.{rose_later}
 use Rattle.fifo_core.specs.declared.types.EndState.TheVariants as ends
 use Rattle.slave.specs.Job.{JobView, SoundStays, note_at}
-use Rattle.slave.specs.Table.{EndFailed, Closed, Row, calls_of, RowHolds, AllRows, Chain, row_note, row_fault, row_packets, written_of, Numbered}
+use Rattle.slave.specs.Table.{EndFailed, Closed, Row, calls_of, RowHolds, AllRows, Chain, row_note, row_fault, row_packets, written_among, Numbered}
 use Rattle.slave.proofs.Rows.{map_push, faults_push_none, faults_push_some, packets_push, chain_last, rows_push, rows_front, numbered_push, numbered_last, numbered_front}
-use Rattle.slave.specs.Table.{Keeps}
+use Rattle.slave.specs.Table.{KeepsAll}
+use Rattle.slave.specs.Given.{Given, Gives}
 use Rattle.fifo_core.specs.History.{is_live, end_of}
 use Rattle.slave.specs.Job.{Closes}
-use Rattle.slave.specs.End.{EndView, EndsAs, EndNotes, EndedBy}
+use Rattle.slave.specs.End.{EndView, EndsAs, EndNotes, EndedAllBy}
 use Rattle.slave.proofs.Steps.{open_row}
 
 live_bools : (w : Bool) (m : Mode) (b : Bool) → b ≡ true → b ≡ (if w then false else mode_is_live m) → (w ≡ false) × (m ≡ Live)
@@ -36,7 +37,7 @@ live_bools false (Broken f) b e d = let t : true ≡ false = sym e ∙ d in absu
 live_bools false (Dead f) b e d = let t : true ≡ false = sym e ∙ d in absurd (cc t)
 
 -- what is known of an output that is live at its end
-pub live_now : {out : Origin} {o : FifoOptions} {L : List Packet} {v : JobView} (k : Keeps out o L v) (b : Bool) → b ≡ true → b ≡ is_live o k.history
+pub live_now : {out : Origin} {o : FifoOptions} {T : List Given} {v : JobView} (k : KeepsAll out o T v) (b : Bool) → b ≡ true → b ≡ is_live o k.history
     → (wanted k.history ≡ false) × (mode_of o k.history ≡ Live)
 live_now {o = o} k b e d = live_bools (wanted k.history) (mode_of o k.history) b e (d ∙ not_and (wanted k.history) (mode_is_live (mode_of o k.history)))
   where
@@ -67,8 +68,8 @@ told_sound : {v : JobView} {e : EndView} (first : ShelfState) (k : EndTells v e)
 told_sound first k s x = ap (λ (y : ShelfState). y.faults) k.shelf ∙ (s x).1
 
 -- the muxer's end was not called
-pub ended_closed : {out : Origin} {o : FifoOptions} {L : List Packet} (v : JobView) (e : EndView) (k : Keeps out o L v) (b : Bool) → b ≡ false → b ≡ is_live o k.history
-    → EndTells v e → e.state ≡ end_of k.history None → EndedBy out o L k.history e
+pub ended_closed : {out : Origin} {o : FifoOptions} {T : List Given} (v : JobView) (e : EndView) (k : KeepsAll out o T v) (b : Bool) → b ≡ false → b ≡ is_live o k.history
+    → EndTells v e → e.state ≡ end_of k.history None → EndedAllBy out o T k.history e
 ended_closed {out = out} v e k b shut is_b told st =
     let t = k.stands.table in (
       record {
@@ -102,7 +103,7 @@ ended_closed {out = out} v e k b shut is_b told st =
         sound = told_sound out.shelf told t.sound;
         safe = λ x. told.faults ∙ t.safe x;
         wants = rw (same_want_counts told) t.wants;
-        excuse = λ x none. rw (same_want_counts told) (t.excuse (want_shown (wanted k.history) (sym st ∙ x)) (sym told.faults ∙ none));
+        excuse = λ q x none. rw (same_want_counts told) (t.excuse q (want_shown (wanted k.history) (sym st ∙ x)) (sym told.faults ∙ none));
       },
       refl,
     )
@@ -122,21 +123,21 @@ no_note answer.Done v w c none fine = c.made.2 ∙ none
 no_note answer.Fault v w c none fine = absurd (fine refl)
 no_note answer.NoMemory v w c none fine = c.made.2 ∙ none
 
-module _ {out : Origin} {o : FifoOptions} {L : List Packet} (v w : JobView) (e : EndView) (k : Keeps out o L v) (u : wanted k.history ≡ false) (live : mode_of o k.history ≡ Live)
+module _ {out : Origin} {o : FifoOptions} {T : List Given} (v w : JobView) (e : EndView) (k : KeepsAll out o T v) (u : wanted k.history ≡ false) (live : mode_of o k.history ≡ Live)
     (told : EndTells w e) where
   closing : (b : Answer) (q : Row) → Closes out k.stands.table.last.last.written v b w → e.state ≡ end_of k.history (Some b) → is_live o k.history ≡ true
-      → q.note.number ≡ k.stands.table.last.last.note.number → q.before ≡ k.stands.table.last.last.before → q.after ≡ w.shelf → RowHolds out L q
+      → q.note.number ≡ k.stands.table.last.last.note.number → q.before ≡ k.stands.table.last.last.before → q.after ≡ w.shelf → RowHolds out (Gives T) q
       → q.written ≡ k.stands.table.last.last.written → EndsAs (Some b) q
       → w.sessions ≡ map row_note (k.stands.table.last.front ++ q ∷ []) → w.faults ≡ filter_map row_fault (k.stands.table.last.front ++ q ∷ [])
-      → EndNotes k.history (Some b) w.faults → EndedBy out o L k.history e
+      → EndNotes k.history (Some b) w.faults → EndedAllBy out o T k.history e
   closing b q c st is_open same_number same_before is_after holds same_written ends_so ss fs ns =
       let t = k.stands.table in
       let fr = t.last.front in
       let x = t.last.last in
       let chained : Chain out.shelf (fr ++ x ∷ []) v.shelf = rw t.last.split at t.chain in
-      let all : AllRows out L (fr ++ x ∷ []) = rw t.last.split at t.each in
+      let all : AllRows out (Gives T) (fr ++ x ∷ []) = rw t.last.split at t.each in
       let numbers : Numbered 0 (fr ++ x ∷ []) = rw t.last.split at t.numbered in
-      let before : flat_map row_packets (fr ++ x ∷ []) ≡ written_of L (fates_of k.history) ++ [] = rw t.last.split at t.packets in (
+      let before : flat_map row_packets (fr ++ x ∷ []) ≡ written_among T (fates_of k.history) ++ [] = rw t.last.split at t.packets in (
         record {
           history = k.history;
           follows = k.follows;
@@ -161,20 +162,20 @@ module _ {out : Origin} {o : FifoOptions} {L : List Packet} (v w : JobView) (e :
           added = told.added;
           chain = rw (told.shelf, ← is_after) (chain_last out.shelf v.shelf fr x q chained same_before);
           bytes = told.bytes;
-          each = rows_push out L fr q (rows_front out L fr x all) holds;
-          packets = packets_push fr q ∙ rw (same_number, same_written) (sym (packets_push fr x) ∙ before ∙ append-nil (written_of L (fates_of k.history)));
+          each = rows_push out (Gives T) fr q (rows_front out (Gives T) fr x all) holds;
+          packets = packets_push fr q ∙ rw (same_number, same_written) (sym (packets_push fr x) ∙ before ∙ append-nil (written_among T (fates_of k.history)));
           notes = rw told.faults ns;
           inline = told.inline;
           sound = told_sound out.shelf told (sound_then out.shelf v.shelf w.shelf t.sound c.sound);
           safe = λ x. told.faults ∙ no_note b v w c (t.safe x) (c.safe (t.sound x).0);
           wants = rw (same_want_counts told) (omega (arith, t.wants, c.want_counts));
-          excuse = λ y none. rw (same_want_counts told)
+          excuse = λ q y none. rw (same_want_counts told)
               (rose_later out.shelf.wants v.shelf.wants w.shelf.wants t.wants (wants_at b v w c (end_wanted b k.history (sym st ∙ y))));
         },
         refl,
       )
 
-  pub ended_live : (b : Answer) → Closes out k.stands.table.last.last.written v b w → e.state ≡ end_of k.history (Some b) → is_live o k.history ≡ true → EndedBy out o L k.history e
+  pub ended_live : (b : Answer) → Closes out k.stands.table.last.last.written v b w → e.state ≡ end_of k.history (Some b) → is_live o k.history ≡ true → EndedAllBy out o T k.history e
   ended_live answer.Done c st is_open =
       let t = k.stands.table in
       let fr = t.last.front in

@@ -74,3 +74,10 @@ turn_dead o h g i facts new may a d =
     let e = may_dead o h g may d in
     let s = dead_settles (wanted g) (mode_of o g) (is_waiting o g facts) (needs_restart o g i facts) e in
     acted_dead o g i facts (action_of o g i facts) s.0 new s.1 a e
+
+-- a turn that only settles a fate
+pub fated_adds : (h g : History) (i : ℕ) (f : Fate) → MayWant h g → Adds h (Fated i f ∷ g)
+fated_adds h g i f may = adds_more h g (Fated i f ∷ g) (may_adds h g may) (Fated i f ∷ [], refl)
+
+pub fated_dead : (o : FifoOptions) (h g : History) (i : ℕ) (f : Fate) → MayWant h g → mode_is_dead (mode_of o h) ≡ true → mode_is_dead (mode_of o (Fated i f ∷ g)) ≡ true
+fated_dead o h g i f may d = may_dead o h g may d

@@ -1,6 +1,7 @@
 pub mod Accounted
 pub mod Begin
 pub mod CallsLemmas
+pub mod Direct
 pub mod Faultless
 pub mod Finish
 pub mod GivenUp

@@ -1,6 +1,5 @@
 -- Room for a run is refused only where memory was wanted for good, or a fault came.
-use Rattle.std.proofs.Common.{◌≡◌, ℕ, zero, suc, ◌+◌, ◌≤◌, inl, inr, Bool, true, false, ◌⊎◌, List, [], ◌∷◌, ◌++◌, length, map, refl, ap, sym, ◌∙◌, subst, arith, append_assoc}
-use Rattle.std.proofs.lemmas.List.{append-nil}
+use Rattle.std.proofs.Common.{◌≡◌, ℕ, suc, ◌+◌, inl, inr, Bool, true, false, ◌⊎◌, List, [], ◌∷◌, ◌++◌, length, map, refl, ap, sym, ◌∙◌, subst, arith}
 use Rattle.fifo_core.specs.declared.types.FifoOptions.{FifoOptions}
 use Rattle.fifo_core.specs.declared.types.PacketFacts.{PacketFacts}
 use Rattle.fifo_core.specs.declared.types.Answer.TheVariants as answer
@@ -14,10 +13,12 @@ use Rattle.rmx_edge.specs.Count.{Rose}
 use Rattle.rmx_media.specs.declared.packet.Packet.{Packet}
 use Rattle.slave.specs.declared.records.Run.{Run}
 use Rattle.slave.specs.Origin.{Origin, facts_of}
-use Rattle.slave.specs.Runs.{spread, expand, Joins, InOrder}
+use Rattle.slave.specs.Runs.{expand, Joins, InOrder}
 use Rattle.slave.specs.Job.{JobView, MakesRoom}
-use Rattle.slave.specs.Table.{Keeps, NotesTell, turns_from, expected_in}
-use Rattle.slave.proofs.Lists.{same_ends, spread_more}
+use Rattle.slave.specs.Table.{Keeps, KeepsAll, Stands, NotesTell, turns_from, expected_in}
+use Rattle.slave.specs.Given.{Given, Sent, Swept, index_of, turn_of, end_from, sent_from, IsGapless}
+use Rattle.slave.proofs.Direct.{plain_fates, gapless_last, sent_turns}
+use Rattle.slave.proofs.Lists.{same_ends, last_run}
 use Rattle.slave.proofs.Steps.{not_empty}
 
 -- with no note and no want every answer was Done
@@ -48,29 +49,6 @@ last_written n x (y ∷ ys) =
     let e : (n + 1) + length ys ≡ n + suc (length ys) = omega arith in
     ((n, fate.Written 0) ∷ k.0, ap (λ (zs : List (ℕ × Fate)). (n, fate.Written 0) ∷ zs) (rw e at k.1))
 
--- the last run has the last fate
-last_run : (n e : ℕ) (rs : List Run) → InOrder n e rs → (rs ≡ [])
-    ⊎ ((front : List Run) × (r : Run) × (xs : List (ℕ × Fate)) × (k : ℕ) × (rs ≡ front ++ r ∷ []) × (r.count ≡ suc k) × (expand rs ≡ xs ++ (r.first + k, r.fate) ∷ []))
-last_run n e [] o = inl refl
-last_run n e (r ∷ rs) o = elim (last_run (r.first + r.count) e rs o.2) [
-  | inl none ↦ inr (one_run r r.count refl o.1 rs none)
-  | inr k ↦ inr (
-    r ∷ k.0,
-    k.1,
-    spread r.first r.count r.fate ++ k.2,
-    k.3,
-    ap (λ (qs : List Run). r ∷ qs) k.4,
-    k.5,
-    ap (λ (ys : List (ℕ × Fate)). spread r.first r.count r.fate ++ ys) k.6 ∙ sym (append_assoc (spread r.first r.count r.fate) k.2 _),
-  )
-]
-  where
-    one_run : (r : Run) (c : ℕ) → c ≡ r.count → 1 ≤ r.count → (rs : List Run) → rs ≡ []
-        → (front : List Run) × (q : Run) × (xs : List (ℕ × Fate)) × (k : ℕ) × (r ∷ rs ≡ front ++ q ∷ []) × (q.count ≡ suc k) × (expand (r ∷ rs) ≡ xs ++ (q.first + k, q.fate) ∷ [])
-    one_run r zero e le rs none = absurd (omega (arith, e, le))
-    one_run r (suc k) e le rs none =
-        ([], r, spread r.first k r.fate, k, rw none refl, sym e, rw (none, ← e, append-nil) (spread_more r.first k r.fate))
-
 -- where all packets so far were written in session 0, a further one is too, and its run goes on or is the first
 same_pair : {i j : ℕ} {f g : Fate} (x y : ℕ × Fate) → x ≡ (i, f) → y ≡ (j, g) → x ≡ y → (i ≡ j) × (f ≡ g)
 same_pair x y a b e = (ap (λ (z : ℕ × Fate). z.0) (sym a ∙ e ∙ b), ap (λ (z : ℕ × Fate). z.1) (sym a ∙ e ∙ b))
@@ -89,7 +67,7 @@ all_joins rs e xs o is = elim (last_run 0 e rs o) [ inl none ↦ inl none | inr 
         let w = last_written 0 x xs in
         let ends = same_ends ys w.0 _ _ (e ∙ w.1) in
         let pair = same_pair (r.first + k, r.fate) (0 + length xs, fate.Written 0) refl refl ends.1 in
-        (front, r, split, pair.1, omega (arith, count, pair.0))
+        (front, r, split, pair.1, inl (omega (arith, count, pair.0)))
 
 -- where room is refused, memory was wanted before, or there is a note
 pub refused_room : {out : Origin} {o : FifoOptions} {L : List Packet} (p : Packet) (i : ℕ) (facts : PacketFacts) (f : Fate) (b : Bool) (v w : JobView)
@@ -98,7 +76,7 @@ pub refused_room : {out : Origin} {o : FifoOptions} {L : List Packet} (p : Packe
 refused_room {out = out} {o = o} {L = L} p i facts f b v w k m refused at same is none = by (wanted k.history) refl
   where
     by : (x : Bool) → wanted k.history ≡ x → Rose out.shelf.wants v.shelf.wants
-    by true u = k.stands.table.excuse u none
+    by true u = k.stands.table.excuse (L, refl) u none
     by false u =
         let h = k.history in
         let told : NotesTell h [] = rw none at k.stands.table.notes in
@@ -108,9 +86,28 @@ refused_room {out = out} {o = o} {L = L} p i facts f b v w k m refused at same i
         let act = rw (size, at) at (writes o (length (map (facts_of out) L)) h facts whole.0) in
         let session : trying o h ≡ 0 = rw (whole.0.live, whole.0.session) refl in
         let written : f ≡ fate.Written 0 = is ∙ ap (expected_in o h) act ∙ ap fate.Written session in
-        let goes_on = all_joins v.runs (length L) (map (facts_of out) L) k.stands.order.0 (k.stands.table.fates ∙ whole.1) in
+        let goes_on = all_joins v.runs (end_from 0 (sent_from 0 L)) (map (facts_of out) L) k.stands.order.0 (k.stands.table.fates ∙ plain_fates L h k.stands.indexed ∙ whole.1) in
         let r = m.refused refused in
         absurd (elim goes_on [
           | inl e ↦ r.1 (k.stands.places.first e)
           | inr j ↦ r.0 (rw (written, ← at) (rw size at j))
         ])
+
+-- the same of what was given without gaps
+pub refused_gapless : {out : Origin} {o : FifoOptions} (T : List Given) (p : Packet) (i : ℕ) (facts : PacketFacts) (f : Fate) (b : Bool) (v w : JobView)
+    (k : KeepsAll out o T v) → MakesRoom i f v b w → b ≡ false → facts ≡ facts_of out p
+    → f ≡ expected_in o k.history (action_of o k.history i facts) → IsGapless (T ++ Sent i p ∷ []) → v.faults ≡ [] → Rose out.shelf.wants v.shelf.wants
+refused_gapless {out = out} {o = o} T p i facts f b v w k m refused same is gapless none =
+    let g = gapless_last T (Sent i p) gapless in
+    let index : i ≡ 0 + length g.0 = ap index_of g.3 in
+    let follows : Follows o (map (turn_of out) (sent_from 0 g.0)) k.history = subst (λ (ts : List Given). Follows o (map (turn_of out) ts) k.history) g.2 k.follows in
+    let kept : Keeps out o g.0 v = record {
+      history = k.history;
+      follows = rw (sent_turns out 0 g.0) at follows;
+      stands = subst (λ (ts : List Given). Stands out o ts k.history v) g.2 k.stands;
+    } in
+    refused_room p i facts f b v w kept m refused (omega (arith, index)) same is none
+
+-- a packet that is flushed leaves a gap
+pub swept_gap : (T : List Given) (i n : ℕ) → IsGapless (T ++ Swept i n ∷ []) → ⊥
+swept_gap T i n gapless = let g = gapless_last T (Swept i n) gapless in cc g.3

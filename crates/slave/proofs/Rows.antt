@@ -1,5 +1,5 @@
 -- Tables of sessions, by their last row.
-use Rattle.std.proofs.Common.{◌≡◌, ℕ, zero, suc, List, [], ◌∷◌, ◌++◌, length, map, flat_map, filter_map, slice_get, Option, Some, None, refl, ap, sym, ◌∙◌, arith, append_assoc, ◌+◌}
+use Rattle.std.proofs.Common.{◌≡◌, ℕ, inl, inr, List, [], ◌∷◌, ◌++◌, length, map, flat_map, filter_map, Option, Some, None, refl, ap, sym, ◌∙◌, arith, append_assoc, ◌+◌}
 use Rattle.std.proofs.lemmas.List.{append-nil}
 use Rattle.std.specs.List.{cons_option}
 use Rattle.fifo_core.specs.declared.types.Fate.{Fate}
@@ -10,7 +10,8 @@ use Rattle.rmx_edge.proofs.HistoryRuns.{calls_over-append}
 use Rattle.slave.specs.Origin.{Origin}
 use Rattle.slave.specs.declared.records.FaultNote.{FaultNote}
 use Rattle.slave.specs.Calls.{put_calls, puts}
-use Rattle.slave.specs.Table.{Outcome, Open, NotBegun, PutFailed, EndFailed, Closed, Row, LeftBy, NoteFits, RowHolds, AllRows, Chain, row_fault, row_packets, if_written, written_of, Numbered, Indexed}
+use Rattle.slave.specs.Given.{Given, Sent, Swept, index_of, end_from, Gives, sent_from, IsGapless}
+use Rattle.slave.specs.Table.{Outcome, Open, NotBegun, PutFailed, EndFailed, Closed, Row, LeftBy, NoteFits, RowHolds, AllRows, Chain, row_fault, row_packets, if_given, written_among, indices, Numbered}
 
 pub map_push : {A B : Type 0} (f : A → B) (xs : List A) (x : A) → map f (xs ++ x ∷ []) ≡ map f xs ++ f x ∷ []
 map_push f [] x = refl
@@ -50,57 +51,80 @@ pub chain_end : (first now : ShelfState) (rs : List Row) (r : Row) → Chain fir
 chain_end first now [] r c = c.1
 chain_end first now (s ∷ rs) r c = chain_end s.after now rs r c.1
 
-pub rows_push : (out : Origin) (L : List Packet) (rs : List Row) (r : Row) → AllRows out L rs → RowHolds out L r → AllRows out L (rs ++ r ∷ [])
-rows_push out L [] r a h = (h, tt)
-rows_push out L (q ∷ rs) r a h = (a.0, rows_push out L rs r a.1 h)
+pub rows_push : (out : Origin) (At : ℕ → Packet → Type 0) (rs : List Row) (r : Row) → AllRows out At rs → RowHolds out At r → AllRows out At (rs ++ r ∷ [])
+rows_push out At [] r a h = (h, tt)
+rows_push out At (q ∷ rs) r a h = (a.0, rows_push out At rs r a.1 h)
 
-pub rows_front : (out : Origin) (L : List Packet) (rs : List Row) (r : Row) → AllRows out L (rs ++ r ∷ []) → AllRows out L rs
-rows_front out L [] r a = tt
-rows_front out L (q ∷ rs) r a = (a.0, rows_front out L rs r a.1)
+pub rows_front : (out : Origin) (At : ℕ → Packet → Type 0) (rs : List Row) (r : Row) → AllRows out At (rs ++ r ∷ []) → AllRows out At rs
+rows_front out At [] r a = tt
+rows_front out At (q ∷ rs) r a = (a.0, rows_front out At rs r a.1)
 
-pub rows_last : (out : Origin) (L : List Packet) (rs : List Row) (r : Row) → AllRows out L (rs ++ r ∷ []) → RowHolds out L r
-rows_last out L [] r a = a.0
-rows_last out L (q ∷ rs) r a = rows_last out L rs r a.1
+pub rows_last : (out : Origin) (At : ℕ → Packet → Type 0) (rs : List Row) (r : Row) → AllRows out At (rs ++ r ∷ []) → RowHolds out At r
+rows_last out At [] r a = a.0
+rows_last out At (q ∷ rs) r a = rows_last out At rs r a.1
 
-get_more : (L : List Packet) (p : Packet) (i : ℕ) (q : Packet) → slice_get L i ≡ Some q → slice_get (L ++ p ∷ []) i ≡ Some q
-get_more [] p i q e = absurd (cc e)
-get_more (x ∷ L) p zero q e = e
-get_more (x ∷ L) p (suc i) q e = get_more L p i q e
+left_other : (out : Origin) (At Bt : ℕ → Packet → Type 0) (r : Row) (o : Outcome) → ((i : ℕ) (p : Packet) → At i p → Bt i p) → LeftBy out At r o → LeftBy out Bt r o
+left_other out At Bt r Open f l = l
+left_other out At Bt r NotBegun f l = l
+left_other out At Bt r (PutFailed i q) f l = (l.0, l.1, f i q l.2, l.3)
+left_other out At Bt r EndFailed f l = l
+left_other out At Bt r Closed f l = l
 
-left_more : (out : Origin) (L : List Packet) (p : Packet) (r : Row) (o : Outcome) → LeftBy out L r o → LeftBy out (L ++ p ∷ []) r o
-left_more out L p r Open l = l
-left_more out L p r NotBegun l = l
-left_more out L p r (PutFailed i q) l = (l.0, l.1, get_more L p i q l.2, l.3)
-left_more out L p r EndFailed l = l
-left_more out L p r Closed l = l
+-- sessions stay so where each packet has its index by another relation too
+pub rows_other : (out : Origin) (At Bt : ℕ → Packet → Type 0) (rs : List Row) → ((i : ℕ) (p : Packet) → At i p → Bt i p) → AllRows out At rs → AllRows out Bt rs
+rows_other out At Bt [] f a = tt
+rows_other out At Bt (r ∷ rs) f a = ((left_other out At Bt r r.outcome f a.0.0, a.0.1, a.0.2, a.0.3), rows_other out At Bt rs f a.1)
 
--- more packets change no session
-pub rows_more : (out : Origin) (L : List Packet) (p : Packet) (rs : List Row) → AllRows out L rs → AllRows out (L ++ p ∷ []) rs
-rows_more out L p [] a = tt
-rows_more out L p (r ∷ rs) a = ((left_more out L p r r.outcome a.0.0, a.0.1, a.0.2, a.0.3), rows_more out L p rs a.1)
+pub gives_more : (T : List Given) (t : Given) (i : ℕ) (q : Packet) → Gives T i q → Gives (T ++ t ∷ []) i q
+gives_more [] t i q e = absurd e
+gives_more (Sent j p ∷ T) t i q (inl e) = inl e
+gives_more (Sent j p ∷ T) t i q (inr e) = inr (gives_more T t i q e)
+gives_more (Swept j n ∷ T) t i q e = gives_more T t i q e
 
-pub written_more : (L : List Packet) (p : Packet) (fs : List (ℕ × Fate)) → length fs ≡ length L → written_of (L ++ p ∷ []) fs ≡ written_of L fs
-written_more [] p [] e = refl
-written_more [] p (f ∷ fs) e = absurd (omega arith)
-written_more (q ∷ L) p [] e = refl
-written_more (q ∷ L) p (f ∷ fs) e = ap (λ zs. if_written q f.1 ++ zs) (written_more L p fs (omega arith))
+pub gives_last : (T : List Given) (i : ℕ) (p : Packet) → Gives (T ++ Sent i p ∷ []) i p
+gives_last [] i p = inl (refl, refl)
+gives_last (Sent j q ∷ T) i p = inr (gives_last T i p)
+gives_last (Swept j n ∷ T) i p = gives_last T i p
 
-pub written_push : (L : List Packet) (p : Packet) (fs : List (ℕ × Fate)) (x : ℕ × Fate) → length fs ≡ length L
-    → written_of (L ++ p ∷ []) (fs ++ x ∷ []) ≡ written_of (L ++ p ∷ []) fs ++ if_written p x.1
-written_push [] p [] x e = append-nil (if_written p x.1)
-written_push [] p (f ∷ fs) x e = absurd (omega arith)
-written_push (q ∷ L) p [] x e = absurd (omega arith)
-written_push (q ∷ L) p (f ∷ fs) x e =
-    rw (written_push L p fs x (omega arith)) (sym (append_assoc (if_written q f.1) (written_of (L ++ p ∷ []) fs) (if_written p x.1)))
+pub written_more : (T : List Given) (t : Given) (fs : List (ℕ × Fate)) → length fs ≡ length T → written_among (T ++ t ∷ []) fs ≡ written_among T fs
+written_more [] t [] e = refl
+written_more [] t (f ∷ fs) e = absurd (omega arith)
+written_more (q ∷ T) t [] e = refl
+written_more (q ∷ T) t (f ∷ fs) e = ap (λ zs. if_given q f.1 ++ zs) (written_more T t fs (omega arith))
+
+pub written_push : (T : List Given) (t : Given) (fs : List (ℕ × Fate)) (x : ℕ × Fate) → length fs ≡ length T
+    → written_among (T ++ t ∷ []) (fs ++ x ∷ []) ≡ written_among (T ++ t ∷ []) fs ++ if_given t x.1
+written_push [] t [] x e = append-nil (if_given t x.1)
+written_push [] t (f ∷ fs) x e = absurd (omega arith)
+written_push (q ∷ T) t [] x e = absurd (omega arith)
+written_push (q ∷ T) t (f ∷ fs) x e =
+    rw (written_push T t fs x (omega arith)) (sym (append_assoc (if_given q f.1) (written_among (T ++ t ∷ []) fs) (if_given t x.1)))
+
+pub end_push : (n : ℕ) (T : List Given) (t : Given) → end_from n (T ++ t ∷ []) ≡ index_of t + 1
+end_push n [] t = refl
+end_push n (q ∷ T) t = end_push (index_of q + 1) T t
+
+pub indices_push : (T : List Given) (t : Given) (fs : List (ℕ × Fate)) (i : ℕ) (f : Fate) → indices fs ≡ map index_of T → i ≡ index_of t
+    → indices (fs ++ (i, f) ∷ []) ≡ map index_of (T ++ t ∷ [])
+indices_push T t fs i f e is = map_push (λ (x : ℕ × Fate). x.0) fs (i, f) ∙ rw (e, is) (sym (map_push index_of T t))
+
+-- what was given without gaps was so before the last one
+front_of : (n : ℕ) (T : List Given) (t : Given) (L : List Packet) → T ++ t ∷ [] ≡ sent_from n L → (M : List Packet) × (T ≡ sent_from n M)
+front_of n [] t L e = ([], refl)
+front_of n (q ∷ T) t [] e = absurd (cc e)
+front_of n (q ∷ T) t (p ∷ L) e =
+    let head : q ≡ Sent n p = cc in
+    let tail : T ++ t ∷ [] ≡ sent_from (n + 1) L = cc in
+    let k = front_of (n + 1) T t L tail in
+    (p ∷ k.0, rw (head, k.1) refl)
+
+pub gapless_front : (T : List Given) (t : Given) → IsGapless (T ++ t ∷ []) → IsGapless T
+gapless_front T t k = front_of 0 T t k.0 k.1
 
 -- an open session has no note
 pub open_no_fault : (r : Row) (f : Option FaultNote) → NoteFits r f → r.outcome ≡ Open → f ≡ None
 open_no_fault r None n e = refl
 open_no_fault r (Some m) n e = absurd (rw e at n.1)
-
-pub get_end : (L : List Packet) (p : Packet) → slice_get (L ++ p ∷ []) (length L) ≡ Some p
-get_end [] p = refl
-get_end (q ∷ L) p = get_end L p
 
 pub numbered_push : (n : ℕ) (rs : List Row) (r : Row) → Numbered n rs → r.note.number ≡ n + length rs → Numbered n (rs ++ r ∷ [])
 numbered_push n [] r k e = (omega (arith, e), tt)
@@ -113,7 +137,3 @@ numbered_last n (q ∷ rs) r k = omega (arith, numbered_last (n + 1) rs r k.1)
 pub numbered_front : (n : ℕ) (rs : List Row) (r : Row) → Numbered n (rs ++ r ∷ []) → Numbered n rs
 numbered_front n [] r k = tt
 numbered_front n (q ∷ rs) r k = (k.0, numbered_front (n + 1) rs r k.1)
-
-pub indexed_push : (n : ℕ) (fs : List (ℕ × Fate)) (i : ℕ) (f : Fate) → Indexed n fs → n + length fs ≡ i → Indexed n (fs ++ (i, f) ∷ [])
-indexed_push n [] i f k e = (omega (arith, e), tt)
-indexed_push n (x ∷ fs) i f k e = (k.0, indexed_push (n + 1) fs i f k.1 (omega (arith, e)))

@@ -52,7 +52,7 @@ first_table {out = out} {o = o} answer.Done v w k c =
       sound = rw k.shelf at c.sound;
       safe = λ e. c.made.2 ∙ k.faults;
       wants = omega (arith, same_wants k, c.want_counts);
-      excuse = λ x. absurd (cc x);
+      excuse = λ q x. absurd (cc x);
     }
 first_table {out = out} {o = o} answer.Fault v w k c =
     let n = note_at v Begin w in
@@ -72,7 +72,7 @@ first_table {out = out} {o = o} answer.Fault v w k c =
       sound = rw k.shelf at c.sound;
       safe = λ e. absurd (c.safe (rw k.shelf e) refl);
       wants = omega (arith, same_wants k, c.want_counts);
-      excuse = λ x. absurd (cc x);
+      excuse = λ q x. absurd (cc x);
     }
 first_table {out = out} {o = o} answer.NoMemory v w k c =
     let q : Row = record { note = record { number = session_in v.fifo; begun = false; closed = false }; outcome = NotBegun; fault = None; written = []; before = v.shelf; after = w.shelf } in
@@ -91,7 +91,7 @@ first_table {out = out} {o = o} answer.NoMemory v w k c =
       sound = rw k.shelf at c.sound;
       safe = λ e. c.made.2 ∙ k.faults;
       wants = omega (arith, same_wants k, c.want_counts);
-      excuse = λ x e. rose_later out.shelf.wants v.shelf.wants w.shelf.wants (same_wants k) c.made.4;
+      excuse = λ q x e. rose_later out.shelf.wants v.shelf.wants w.shelf.wants (same_wants k) c.made.4;
     }
 
 no_runs : (rs : List Run) → rs ≡ [] → AreInOrder 0 rs
@@ -108,7 +108,7 @@ started_done {o = o} v w x k c shows next = record {
     next = next ∙ ap next_of c.fifo ∙ k.next;
     kit = c.kit;
     count = refl;
-    indexed = tt;
+    indexed = refl;
     order = no_runs w.runs (c.runs ∙ k.runs);
     table = first_table answer.Done v w k c;
     places = record { runs = inl (omega (arith, k.run_places, c.run_places)); sessions = λ _ l. absurd (cc l); faults = λ _. omega (arith, k.fault_places, c.made.3); first = λ _. omega (arith, k.run_places, c.run_places) };
@@ -125,7 +125,7 @@ started_want {o = o} v w x k c shows next = record {
     next = next ∙ ap next_of c.fifo ∙ k.next;
     kit = c.kit;
     count = refl;
-    indexed = tt;
+    indexed = refl;
     order = no_runs w.runs (c.runs ∙ k.runs);
     table = first_table answer.NoMemory v w k c;
     places = record { runs = inl (omega (arith, k.run_places, c.run_places)); sessions = λ u. absurd (cc u); faults = λ u. absurd (cc u); first = λ _. omega (arith, k.run_places, c.run_places) };
@@ -143,7 +143,7 @@ started_fault {out = out} {o = o} v w y x b granted k c shows next m = record {
     next = ap next_of m.fifo ∙ next ∙ ap next_of c.fifo ∙ k.next;
     kit = rw m.kit c.kit;
     count = refl;
-    indexed = tt;
+    indexed = refl;
     order = no_runs y.runs (m.runs ∙ c.runs ∙ k.runs);
     table = rw (m.shelf, m.kit, m.runs, m.sessions, m.faults) (first_table answer.Fault v w k c);
     places = (let p = m.granted_all granted in record { runs = inl (omega (arith, p.0)); sessions = λ _ _. p.1; faults = λ _. p.2; first = λ _. p.0 });
@@ -161,9 +161,9 @@ started_refused {out = out} {o = o} v w y x z b k c shows next m wants wants_nex
     next = wants_next ∙ ap next_of m.fifo ∙ next ∙ ap next_of c.fifo ∙ k.next;
     kit = rw m.kit c.kit;
     count = refl;
-    indexed = tt;
+    indexed = refl;
     order = no_runs y.runs (m.runs ∙ c.runs ∙ k.runs);
-    table = want_now (rw (m.shelf, m.kit, m.runs, m.sessions, m.faults) (first_table answer.Fault v w k c)) (λ e. absurd (not_empty v.faults (note_at v Begin w) (sym e ∙ m.faults ∙ c.made.2)));
+    table = want_now (rw (m.shelf, m.kit, m.runs, m.sessions, m.faults) (first_table answer.Fault v w k c)) (λ q e. absurd (not_empty v.faults (note_at v Begin w) (sym e ∙ m.faults ∙ c.made.2)));
     places = record { runs = inl (omega (arith, k.run_places, c.run_places, m.run_places)); sessions = λ u. absurd (cc u); faults = λ u. absurd (cc u); first = λ _. omega (arith, k.run_places, c.run_places, m.run_places) };
   };
 }

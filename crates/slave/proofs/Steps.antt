@@ -1,5 +1,5 @@
 -- What each step does to the table of sessions.
-use Rattle.std.proofs.Common.{◌≡◌, ◌≢◌, ℕ, ◌≤◌, inl, inr, Bool, true, false, List, [], ◌∷◌, ◌++◌, length, flat_map, filter_map, slice_get, Some, None, refl, ap, sym, ◌∙◌, subst, arith, append_assoc, ◌+◌, length-append}
+use Rattle.std.proofs.Common.{◌≡◌, ◌≢◌, ℕ, ◌≤◌, inl, inr, Bool, true, false, List, [], ◌∷◌, ◌++◌, length, flat_map, filter_map, Some, None, refl, ap, sym, ◌∙◌, subst, arith, append_assoc, ◌+◌, length-append}
 use Rattle.std.proofs.lemmas.List.{append-nil}
 use Rattle.fifo_core.specs.declared.types.FifoOptions.{FifoOptions}
 use Rattle.fifo_core.specs.declared.types.PacketFacts.{PacketFacts}
@@ -21,11 +21,12 @@ use Rattle.slave.specs.declared.records.SessionNote.{SessionNote}
 use Rattle.slave.specs.declared.records.FaultAt.TheVariants.{Begin, Put}
 use Rattle.slave.specs.declared.records.FaultNote.{FaultNote}
 use Rattle.slave.specs.Calls.{begin_calls, put_calls, puts}
-use Rattle.slave.specs.Runs.{expand}
+use Rattle.slave.specs.Runs.{expand, pushed}
+use Rattle.slave.specs.Given.{Given, Gives, IsGapless}
 use Rattle.slave.specs.Job.{JobView, Writer, WriterAfter, SoundStays, note_at, Puts, OpensAndPuts}
 use Rattle.slave.proofs.CallsLemmas.{done_joined, stopped_after, first_puts, no_puts, sound_then}
-use Rattle.slave.specs.Table.{Outcome, Open, NotBegun, PutFailed, Row, calls_of, LeftBy, RowHolds, AllRows, Chain, row_note, row_fault, row_packets, if_written, written_of, NotesTell, Table, ahead_of, Numbered}
-use Rattle.slave.proofs.Rows.{map_push, faults_push_none, faults_push_some, packets_push, puts_push, chain_next, chain_last, chain_end, rows_push, rows_front, rows_last, rows_more, written_more, written_push, open_no_fault, numbered_push, numbered_last, numbered_front}
+use Rattle.slave.specs.Table.{Outcome, Open, NotBegun, PutFailed, Row, calls_of, LeftBy, RowHolds, AllRows, Chain, row_note, row_fault, row_packets, if_given, written_among, covered, NotesTell, Table, ahead_of, Numbered}
+use Rattle.slave.proofs.Rows.{map_push, faults_push_none, faults_push_some, packets_push, puts_push, chain_next, chain_last, chain_end, rows_push, rows_front, rows_last, rows_other, gives_more, gapless_front, written_more, written_push, open_no_fault, numbered_push, numbered_last, numbered_front}
 
 -- a live output tries the session that is open
 pub live_trying : (o : FifoOptions) (h : History) → mode_of o h ≡ Live → trying o h ≡ session_of h
@@ -38,48 +39,48 @@ fault_closes o h s i facts = closed o (streak h) (notes h)
 pub not_live : (o : FifoOptions) (h : History) → mode_is_live (mode_of o h) ≡ false → mode_of o h ≡ Live → ⊥
 not_live o h e d = let t : true ≡ false = rw d at e in cc t
 
--- packets that come later change nothing
-pub widened : {out : Origin} {o : FifoOptions} {L : List Packet} {h : History} {shelf : ShelfState} {writer : Writer} {runs : List Run} {sessions : List SessionNote} {faults : List FaultNote}
-    (p : Packet) → length (fates_of h) ≡ length L → Table out o L h [] shelf writer runs sessions faults → Table out o (L ++ p ∷ []) h [] shelf writer runs sessions faults
-widened {out = out} {L = L} {h = h} p e t = record {
-  rows = t.rows;
-  last = t.last;
-  are_sessions = t.are_sessions;
-  are_faults = t.are_faults;
-  chain = t.chain;
-  numbered = t.numbered;
-  each = rows_more out L p t.rows t.each;
-  packets = t.packets ∙ rw (written_more L p (fates_of h) e) refl;
-  fates = t.fates;
-  notes = t.notes;
-  writing = t.writing;
-  sound = t.sound;
-  safe = t.safe;
-  wants = t.wants;
-  excuse = t.excuse;
+-- what comes later changes nothing
+pub widened : {out : Origin} {o : FifoOptions} {T : List Given} {h : History} {shelf : ShelfState} {writer : Writer} {runs : List Run} {sessions : List SessionNote} {faults : List FaultNote}
+    (t : Given) → length (fates_of h) ≡ length T → Table out o T h [] shelf writer runs sessions faults → Table out o (T ++ t ∷ []) h [] shelf writer runs sessions faults
+widened {out = out} {T = T} {h = h} t e k = record {
+  rows = k.rows;
+  last = k.last;
+  are_sessions = k.are_sessions;
+  are_faults = k.are_faults;
+  chain = k.chain;
+  numbered = k.numbered;
+  each = rows_other out (Gives T) (Gives (T ++ t ∷ [])) k.rows (gives_more T t) k.each;
+  packets = k.packets ∙ rw (written_more T t (fates_of h) e) refl;
+  fates = k.fates;
+  notes = k.notes;
+  writing = k.writing;
+  sound = k.sound;
+  safe = k.safe;
+  wants = k.wants;
+  excuse = λ q. k.excuse (gapless_front T t q);
 }
 
--- the fate of the last packet is recorded
+-- the fate of what was given last is recorded
 pub recorded : {out : Origin} {o : FifoOptions} {h : History} {shelf : ShelfState} {writer : Writer} {runs new : List Run} {sessions : List SessionNote} {faults : List FaultNote}
-    (L : List Packet) (p : Packet) (f : Fate) → length (fates_of h) ≡ length L
-    → Table out o (L ++ p ∷ []) h (if_written p f) shelf writer runs sessions faults → expand new ≡ expand runs ++ (length L, f) ∷ []
-    → Table out o (L ++ p ∷ []) (Fated (length L) f ∷ h) [] shelf writer new sessions faults
-recorded {h = h} L p f e t d = record {
-  rows = t.rows;
-  last = record { front = t.last.front; last = t.last.last; split = t.last.split; number = t.last.number; is_open = t.last.is_open };
-  are_sessions = t.are_sessions;
-  are_faults = t.are_faults;
-  chain = t.chain;
-  numbered = t.numbered;
-  each = t.each;
-  packets = t.packets ∙ rw (append-nil, written_push L p (fates_of h) (length L, f) e) refl;
-  fates = d ∙ rw t.fates refl;
-  notes = t.notes;
-  writing = t.writing;
-  sound = t.sound;
-  safe = t.safe;
-  wants = t.wants;
-  excuse = t.excuse;
+    (T : List Given) (t : Given) (i : ℕ) (f : Fate) → length (fates_of h) ≡ length T
+    → Table out o (T ++ t ∷ []) h (if_given t f) shelf writer runs sessions faults → expand new ≡ pushed (expand runs) i f
+    → Table out o (T ++ t ∷ []) (Fated i f ∷ h) [] shelf writer new sessions faults
+recorded {h = h} T t i f e k d = record {
+  rows = k.rows;
+  last = record { front = k.last.front; last = k.last.last; split = k.last.split; number = k.last.number; is_open = k.last.is_open };
+  are_sessions = k.are_sessions;
+  are_faults = k.are_faults;
+  chain = k.chain;
+  numbered = k.numbered;
+  each = k.each;
+  packets = k.packets ∙ rw (append-nil, written_push T t (fates_of h) (i, f) e) refl;
+  fates = d ∙ ap (λ (xs : List (ℕ × Fate)). pushed xs i f) k.fates;
+  notes = k.notes;
+  writing = k.writing;
+  sound = k.sound;
+  safe = k.safe;
+  wants = k.wants;
+  excuse = k.excuse;
 }
 
 wanted_so : (s i : ℕ) (facts : PacketFacts) (a : Answer) (h : History) → wanted (Tried s i facts a ∷ Want ∷ h) ≡ false → ⊥
@@ -100,9 +101,9 @@ pub is_noted : (s i : ℕ) (facts : PacketFacts) (h : History) (ns : List FaultN
 is_noted s i facts h ns t e = not_empty t.0 t.1 (sym e ∙ t.2)
 
 -- memory was wanted before the fault of the packet in hand, as the history tells it
-pub want_before : {out : Origin} {o : FifoOptions} {L : List Packet} {h : History} {ahead : List (ℕ × Packet)} {shelf : ShelfState} {writer : Writer} {runs : List Run} {sessions : List SessionNote} {faults : List FaultNote}
+pub want_before : {out : Origin} {o : FifoOptions} {T : List Given} {h : History} {ahead : List (ℕ × Packet)} {shelf : ShelfState} {writer : Writer} {runs : List Run} {sessions : List SessionNote} {faults : List FaultNote}
     (s i : ℕ) (facts : PacketFacts)
-    → Table out o L (Tried s i facts answer.Fault ∷ h) ahead shelf writer runs sessions faults → Table out o L (Tried s i facts answer.Fault ∷ Want ∷ h) ahead shelf writer runs sessions faults
+    → Table out o T (Tried s i facts answer.Fault ∷ h) ahead shelf writer runs sessions faults → Table out o T (Tried s i facts answer.Fault ∷ Want ∷ h) ahead shelf writer runs sessions faults
 want_before {h = h} {faults = faults} s i facts t = record {
   rows = t.rows;
   last = record { front = t.last.front; last = t.last.last; split = t.last.split; number = t.last.number; is_open = λ w. absurd (wanted_so s i facts answer.Fault h w) };
@@ -118,11 +119,11 @@ want_before {h = h} {faults = faults} s i facts t = record {
   sound = t.sound;
   safe = t.safe;
   wants = t.wants;
-  excuse = λ w e. absurd (is_noted s i facts h faults t.notes e);
+  excuse = λ q w e. absurd (is_noted s i facts h faults t.notes e);
 }
 
-pub want_now : {out : Origin} {o : FifoOptions} {L : List Packet} {h : History} {ahead : List (ℕ × Packet)} {shelf : ShelfState} {writer : Writer} {runs : List Run} {sessions : List SessionNote} {faults : List FaultNote}
-    → Table out o L h ahead shelf writer runs sessions faults → (faults ≡ [] → Rose out.shelf.wants shelf.wants) → Table out o L (Want ∷ h) ahead shelf writer runs sessions faults
+pub want_now : {out : Origin} {o : FifoOptions} {T : List Given} {h : History} {ahead : List (ℕ × Packet)} {shelf : ShelfState} {writer : Writer} {runs : List Run} {sessions : List SessionNote} {faults : List FaultNote}
+    → Table out o T h ahead shelf writer runs sessions faults → (IsGapless T → faults ≡ [] → Rose out.shelf.wants shelf.wants) → Table out o T (Want ∷ h) ahead shelf writer runs sessions faults
 want_now t excused = record {
   rows = t.rows;
   last = record { front = t.last.front; last = t.last.last; split = t.last.split; number = t.last.number; is_open = λ w. absurd (cc w) };
@@ -138,34 +139,34 @@ want_now t excused = record {
   sound = t.sound;
   safe = t.safe;
   wants = t.wants;
-  excuse = λ w e. excused e;
+  excuse = λ q w e. excused q e;
 }
 
 -- there is one session for each number up to the last that was tried
-session_count : {out : Origin} {o : FifoOptions} {L : List Packet} {h : History} {ahead : List (ℕ × Packet)} {shelf : ShelfState} {writer : Writer} {runs : List Run} {sessions : List SessionNote} {faults : List FaultNote}
-    (t : Table out o L h ahead shelf writer runs sessions faults) → session_of h + 1 ≡ 0 + length t.rows
+session_count : {out : Origin} {o : FifoOptions} {T : List Given} {h : History} {ahead : List (ℕ × Packet)} {shelf : ShelfState} {writer : Writer} {runs : List Run} {sessions : List SessionNote} {faults : List FaultNote}
+    (t : Table out o T h ahead shelf writer runs sessions faults) → session_of h + 1 ≡ 0 + length t.rows
 session_count t =
     let numbers : Numbered 0 (t.last.front ++ t.last.last ∷ []) = rw t.last.split at t.numbered in
     let n = numbered_last 0 t.last.front t.last.last numbers in
     let l : length t.rows ≡ length t.last.front + 1 = rw t.last.split (length-append t.last.front (t.last.last ∷ [])) in
     omega (arith, n, l, t.last.number)
 
-module _ {out : Origin} {o : FifoOptions} {L : List Packet} {h : History} {shelf : ShelfState} {writer : Writer} {runs : List Run} {sessions : List SessionNote} {faults : List FaultNote}
-    (t : Table out o L h [] shelf writer runs sessions faults) (q : Row) (g : History) (ahead : List (ℕ × Packet)) (new : ShelfState) (new_writer : Writer)
+module _ {out : Origin} {o : FifoOptions} {T : List Given} {h : History} {shelf : ShelfState} {writer : Writer} {runs : List Run} {sessions : List SessionNote} {faults : List FaultNote}
+    (t : Table out o T h [] shelf writer runs sessions faults) (q : Row) (g : History) (ahead : List (ℕ × Packet)) (new : ShelfState) (new_writer : Writer)
     (new_runs : List Run) (new_sessions : List SessionNote) (new_faults : List FaultNote) where
   -- the last session went on
-  pub replaced : q.note ≡ t.last.last.note → q.before ≡ t.last.last.before → q.after ≡ new → RowHolds out L q
+  pub replaced : q.note ≡ t.last.last.note → q.before ≡ t.last.last.before → q.after ≡ new → RowHolds out (Gives T) q
       → row_packets q ≡ row_packets t.last.last ++ ahead → new_sessions ≡ sessions → new_runs ≡ runs
       → new_faults ≡ filter_map row_fault (t.last.front ++ q ∷ []) → t.last.last.note.number ≡ session_of g
-      → (wanted g ≡ false → mode_of o g ≡ Live → (q.outcome ≡ Open) × WriterAfter out q.written new_writer) → fates_of g ≡ fates_of h → NotesTell g new_faults
+      → (wanted g ≡ false → mode_of o g ≡ Live → (q.outcome ≡ Open) × WriterAfter out q.written new_writer) → ((fates_of g ≡ fates_of h) × (covered g ≡ covered h)) → NotesTell g new_faults
       → (wanted g ≡ false → new.writing ≡ mode_is_live (mode_of o g)) → SoundStays shelf new → (out.shelf.sound ≡ true → new_faults ≡ []) → shelf.wants ≤ new.wants
-      → (wanted g ≡ true → new_faults ≡ [] → Rose out.shelf.wants new.wants) → Table out o L g ahead new new_writer new_runs new_sessions new_faults
+      → (wanted g ≡ true → new_faults ≡ [] → Rose out.shelf.wants new.wants) → Table out o T g ahead new new_writer new_runs new_sessions new_faults
   replaced same_note same_before is_after holds more is_sessions is_runs is_faults number is_open same_fates tells writes more_sound safely more_wants excused =
       let fr = t.last.front in
       let r = t.last.last in
       let chained : Chain out.shelf (fr ++ r ∷ []) shelf = rw t.last.split at t.chain in
-      let all : AllRows out L (fr ++ r ∷ []) = rw t.last.split at t.each in
-      let before : flat_map row_packets (fr ++ r ∷ []) ≡ written_of L (fates_of h) ++ [] = rw t.last.split at t.packets in
+      let all : AllRows out (Gives T) (fr ++ r ∷ []) = rw t.last.split at t.each in
+      let before : flat_map row_packets (fr ++ r ∷ []) ≡ written_among T (fates_of h) ++ [] = rw t.last.split at t.packets in
       let numbers : Numbered 0 (fr ++ r ∷ []) = rw t.last.split at t.numbered in
       record {
         numbered = numbered_push 0 fr q (numbered_front 0 fr r numbers) (ap (λ (n : SessionNote). n.number) same_note ∙ numbered_last 0 fr r numbers);
@@ -174,24 +175,24 @@ module _ {out : Origin} {o : FifoOptions} {L : List Packet} {h : History} {shelf
         are_sessions = is_sessions ∙ t.are_sessions ∙ rw (t.last.split, map_push row_note fr r, map_push row_note fr q, same_note) refl;
         are_faults = is_faults;
         chain = rw (← is_after) (chain_last out.shelf shelf fr r q chained same_before);
-        each = rows_push out L fr q (rows_front out L fr r all) holds;
-        packets = packets_push fr q ∙ rw (more, same_fates) (sym (append_assoc (flat_map row_packets fr) (row_packets r) ahead)
-            ∙ ap (λ zs. zs ++ ahead) (sym (packets_push fr r) ∙ before ∙ append-nil (written_of L (fates_of h))));
-        fates = rw (is_runs, same_fates) t.fates;
+        each = rows_push out (Gives T) fr q (rows_front out (Gives T) fr r all) holds;
+        packets = packets_push fr q ∙ rw (more, same_fates.0) (sym (append_assoc (flat_map row_packets fr) (row_packets r) ahead)
+            ∙ ap (λ zs. zs ++ ahead) (sym (packets_push fr r) ∙ before ∙ append-nil (written_among T (fates_of h))));
+        fates = rw (is_runs, same_fates.1) t.fates;
         notes = tells;
         writing = writes;
         sound = sound_then out.shelf shelf new t.sound more_sound;
         safe = safely;
         wants = omega (arith, t.wants, more_wants);
-        excuse = excused;
+        excuse = λ q. excused;
       }
 
   -- a session began
-  pub appended : q.before ≡ shelf → q.after ≡ new → RowHolds out L q → row_packets q ≡ ahead → new_sessions ≡ sessions ++ q.note ∷ [] → new_runs ≡ runs
+  pub appended : q.before ≡ shelf → q.after ≡ new → RowHolds out (Gives T) q → row_packets q ≡ ahead → new_sessions ≡ sessions ++ q.note ∷ [] → new_runs ≡ runs
       → new_faults ≡ filter_map row_fault (t.rows ++ q ∷ []) → q.note.number ≡ session_of h + 1 → q.note.number ≡ session_of g
-      → (wanted g ≡ false → mode_of o g ≡ Live → (q.outcome ≡ Open) × WriterAfter out q.written new_writer) → fates_of g ≡ fates_of h → NotesTell g new_faults
+      → (wanted g ≡ false → mode_of o g ≡ Live → (q.outcome ≡ Open) × WriterAfter out q.written new_writer) → ((fates_of g ≡ fates_of h) × (covered g ≡ covered h)) → NotesTell g new_faults
       → (wanted g ≡ false → new.writing ≡ mode_is_live (mode_of o g)) → SoundStays shelf new → (out.shelf.sound ≡ true → new_faults ≡ []) → shelf.wants ≤ new.wants
-      → (wanted g ≡ true → new_faults ≡ [] → Rose out.shelf.wants new.wants) → Table out o L g ahead new new_writer new_runs new_sessions new_faults
+      → (wanted g ≡ true → new_faults ≡ [] → Rose out.shelf.wants new.wants) → Table out o T g ahead new new_writer new_runs new_sessions new_faults
   appended is_before is_after holds more is_sessions is_runs is_faults next number is_open same_fates tells writes more_sound safely more_wants excused =
       record {
         rows = t.rows ++ q ∷ [];
@@ -200,15 +201,15 @@ module _ {out : Origin} {o : FifoOptions} {L : List Packet} {h : History} {shelf
         are_sessions = is_sessions ∙ rw t.are_sessions (sym (map_push row_note t.rows q));
         are_faults = is_faults;
         chain = rw (← is_after) (chain_next out.shelf shelf t.rows q t.chain is_before);
-        each = rows_push out L t.rows q t.each holds;
-        packets = packets_push t.rows q ∙ rw (more, same_fates) (ap (λ zs. zs ++ ahead) (t.packets ∙ append-nil (written_of L (fates_of h))));
-        fates = rw (is_runs, same_fates) t.fates;
+        each = rows_push out (Gives T) t.rows q t.each holds;
+        packets = packets_push t.rows q ∙ rw (more, same_fates.0) (ap (λ zs. zs ++ ahead) (t.packets ∙ append-nil (written_among T (fates_of h))));
+        fates = rw (is_runs, same_fates.1) t.fates;
         notes = tells;
         writing = writes;
         sound = sound_then out.shelf shelf new t.sound more_sound;
         safe = safely;
         wants = omega (arith, t.wants, more_wants);
-        excuse = excused;
+        excuse = λ q. excused;
       }
 
 -- the session that is open
@@ -222,16 +223,16 @@ pub record OpenRow (out : Origin) (o : FifoOptions) (h : History) (r : Row) (she
   pub number : r.note.number ≡ trying o h
   pub writer : WriterAfter out r.written m
 
-pub open_row : {out : Origin} {o : FifoOptions} {L : List Packet} {h : History} {shelf : ShelfState} {writer : Writer} {runs : List Run} {sessions : List SessionNote} {faults : List FaultNote}
-    (t : Table out o L h [] shelf writer runs sessions faults) → wanted h ≡ false → mode_of o h ≡ Live → OpenRow out o h t.last.last shelf writer
-open_row {out = out} {o = o} {L = L} {h = h} {shelf = shelf} t u live =
+pub open_row : {out : Origin} {o : FifoOptions} {T : List Given} {h : History} {shelf : ShelfState} {writer : Writer} {runs : List Run} {sessions : List SessionNote} {faults : List FaultNote}
+    (t : Table out o T h [] shelf writer runs sessions faults) → wanted h ≡ false → mode_of o h ≡ Live → OpenRow out o h t.last.last shelf writer
+open_row {out = out} {o = o} {T = T} {h = h} {shelf = shelf} t u live =
     let fr = t.last.front in
     let r = t.last.last in
     let is_open = t.last.is_open u live in
     let chained : Chain out.shelf (fr ++ r ∷ []) shelf = rw t.last.split at t.chain in
-    let all : AllRows out L (fr ++ r ∷ []) = rw t.last.split at t.each in
-    let holds = rows_last out L fr r all in
-    let left = subst (λ (x : Outcome). LeftBy out L r x) is_open.0 holds.0 in
+    let all : AllRows out (Gives T) (fr ++ r ∷ []) = rw t.last.split at t.each in
+    let holds = rows_last out (Gives T) fr r all in
+    let left = subst (λ (x : Outcome). LeftBy out (Gives T) r x) is_open.0 holds.0 in
     let at_end = chain_end out.shelf shelf fr r chained in
     record {
       begun = left.0;
@@ -249,11 +250,11 @@ no_want true u e = absurd (cc u)
 no_want false u e = absurd (cc e)
 
 -- the last packet was tried in the open session
-pub put_made : {out : Origin} {o : FifoOptions} {L : List Packet} {h : History} (i : ℕ) (p : Packet) (facts : PacketFacts) (a : Answer) (v w : JobView)
-    (t : Table out o L h [] v.shelf v.kit.writer v.runs v.sessions v.faults) → wanted h ≡ false → mode_of o h ≡ Live → slice_get L i ≡ Some p
+pub put_made : {out : Origin} {o : FifoOptions} {T : List Given} {h : History} (i : ℕ) (p : Packet) (facts : PacketFacts) (a : Answer) (v w : JobView)
+    (t : Table out o T h [] v.shelf v.kit.writer v.runs v.sessions v.faults) → wanted h ≡ false → mode_of o h ≡ Live → Gives T i p
     → session_in v.fifo ≡ trying o h → Puts out t.last.last.written p (Put i) v a w
-    → Table out o L (Tried (trying o h) i facts a ∷ h) (ahead_of (trying o h) p a) w.shelf w.kit.writer w.runs w.sessions w.faults
-put_made {out = out} {o = o} {L = L} {h = h} i p facts answer.Done v w t u live at in_session made =
+    → Table out o T (Tried (trying o h) i facts a ∷ h) (ahead_of (trying o h) p a) w.shelf w.kit.writer w.runs w.sessions w.faults
+put_made {out = out} {o = o} {T = T} {h = h} i p facts answer.Done v w t u live at in_session made =
     let c = made.calls in
     let fr = t.last.front in
     let r = t.last.last in
@@ -271,8 +272,8 @@ put_made {out = out} {o = o} {L = L} {h = h} i p facts answer.Done v w t u live 
     (map_push (λ (x : Packet). (r.note.number, x)) r.written p ∙ ap (λ (n : ℕ). row_packets r ++ (n, p) ∷ []) k.number)
     c.sessions c.runs
     (c.made.2 ∙ t.are_faults ∙ rw t.last.split (faults_push_none fr r k.no_fault ∙ sym (faults_push_none fr q refl)))
-    k.number (λ _ _. (refl, made.writer refl)) refl (rw c.made.2 t.notes) (λ _. c.made.1) c.sound (λ e. c.made.2 ∙ t.safe e) c.want_counts (λ x e. no_want (wanted h) u x)
-put_made {out = out} {o = o} {L = L} {h = h} i p facts answer.Fault v w t u live at in_session made =
+    k.number (λ _ _. (refl, made.writer refl)) (refl, refl) (rw c.made.2 t.notes) (λ _. c.made.1) c.sound (λ e. c.made.2 ∙ t.safe e) c.want_counts (λ x e. no_want (wanted h) u x)
+put_made {out = out} {o = o} {T = T} {h = h} i p facts answer.Fault v w t u live at in_session made =
     let c = made.calls in
     let fr = t.last.front in
     let r = t.last.last in
@@ -290,9 +291,9 @@ put_made {out = out} {o = o} {L = L} {h = h} i p facts answer.Fault v w t u live
     (sym (append-nil (row_packets r)))
     c.sessions c.runs
     (c.made.2 ∙ ap (λ (ns : List FaultNote). ns ++ n ∷ []) (t.are_faults ∙ rw t.last.split (faults_push_none fr r k.no_fault)) ∙ sym (faults_push_some fr q n refl))
-    k.number (λ _ l. absurd (not_live o (Tried (trying o h) i facts answer.Fault ∷ h) shut l)) refl
+    k.number (λ _ l. absurd (not_live o (Tried (trying o h) i facts answer.Fault ∷ h) shut l)) (refl, refl)
     (v.faults, n, c.made.2, in_session, inl refl, t.notes) (λ _. c.made.1 ∙ sym shut) c.sound (λ e. absurd (c.safe (t.sound e).0 refl)) c.want_counts (λ x e. no_want (wanted h) u x)
-put_made {out = out} {o = o} {L = L} {h = h} i p facts answer.NoMemory v w t u live at in_session made =
+put_made {out = out} {o = o} {T = T} {h = h} i p facts answer.NoMemory v w t u live at in_session made =
     let c = made.calls in
     let fr = t.last.front in
     let r = t.last.last in
@@ -308,17 +309,17 @@ put_made {out = out} {o = o} {L = L} {h = h} i p facts answer.NoMemory v w t u l
     (sym (append-nil (row_packets r)))
     c.sessions c.runs
     (c.made.2 ∙ t.are_faults ∙ rw t.last.split (faults_push_none fr r k.no_fault ∙ sym (faults_push_none fr q refl)))
-    k.number (λ x. absurd (cc x)) refl (rw c.made.2 t.notes) (λ x. absurd (cc x)) c.sound (λ e. c.made.2 ∙ t.safe e) c.want_counts
+    k.number (λ x. absurd (cc x)) (refl, refl) (rw c.made.2 t.notes) (λ x. absurd (cc x)) c.sound (λ e. c.made.2 ∙ t.safe e) c.want_counts
     (λ x e. rose_later out.shelf.wants v.shelf.wants w.shelf.wants t.wants c.made.4)
 
 next_differs : (s n : ℕ) → s ≡ n + 1 → s ≢ n
 next_differs s n e d = omega (arith, e, d)
 
 -- the last packet was tried in a new session
-pub opened_put : {out : Origin} {o : FifoOptions} {L : List Packet} {h : History} (i : ℕ) (p : Packet) (facts : PacketFacts) (a : Answer) (v w : JobView)
-    → Table out o L h [] v.shelf v.kit.writer v.runs v.sessions v.faults → wanted h ≡ false → slice_get L i ≡ Some p → session_in v.fifo ≡ trying o h → trying o h ≡ session_of h + 1
+pub opened_put : {out : Origin} {o : FifoOptions} {T : List Given} {h : History} (i : ℕ) (p : Packet) (facts : PacketFacts) (a : Answer) (v w : JobView)
+    → Table out o T h [] v.shelf v.kit.writer v.runs v.sessions v.faults → wanted h ≡ false → Gives T i p → session_in v.fifo ≡ trying o h → trying o h ≡ session_of h + 1
     → OpensAndPuts out p (Put i) v a w
-    → Table out o L (Tried (trying o h) i facts a ∷ h) (ahead_of (trying o h) p a) w.shelf w.kit.writer w.runs w.sessions w.faults
+    → Table out o T (Tried (trying o h) i facts a ∷ h) (ahead_of (trying o h) p a) w.shelf w.kit.writer w.runs w.sessions w.faults
 opened_put {out = out} {o = o} {h = h} i p facts answer.Done v w t u at in_session next (inl m) =
     let mid = m.0 in
     let op = m.1 in
@@ -335,7 +336,7 @@ opened_put {out = out} {o = o} {h = h} i p facts answer.Done v w t u at in_sessi
     (ap (λ (n : ℕ). (n, p) ∷ []) in_session)
     (c.sessions ∙ op.sessions) (c.runs ∙ op.runs)
     (c.made.2 ∙ op.made.2 ∙ t.are_faults ∙ sym (faults_push_none t.rows q refl))
-    (in_session ∙ next) in_session (λ _ _. (refl, m.2.writer refl)) refl (rw (c.made.2, op.made.2) t.notes) (λ _. c.made.1)
+    (in_session ∙ next) in_session (λ _ _. (refl, m.2.writer refl)) (refl, refl) (rw (c.made.2, op.made.2) t.notes) (λ _. c.made.1)
     (sound_then v.shelf mid.shelf w.shelf op.sound c.sound) (λ e. c.made.2 ∙ op.made.2 ∙ t.safe e) (omega (arith, op.want_counts, c.want_counts)) (λ x e. no_want (wanted h) u x)
 opened_put {out = out} {o = o} {h = h} i p facts answer.Fault v w t u at in_session next (inl m) =
     let mid = m.0 in
@@ -356,7 +357,7 @@ opened_put {out = out} {o = o} {h = h} i p facts answer.Fault v w t u at in_sess
     refl
     (c.sessions ∙ op.sessions) (c.runs ∙ op.runs)
     (c.made.2 ∙ ap (λ (ns : List FaultNote). ns ++ n ∷ []) (op.made.2 ∙ t.are_faults) ∙ sym (faults_push_some t.rows q n refl))
-    (in_session ∙ next) in_session (λ _ l. absurd (not_live o (Tried (trying o h) i facts answer.Fault ∷ h) shut l)) refl
+    (in_session ∙ next) in_session (λ _ l. absurd (not_live o (Tried (trying o h) i facts answer.Fault ∷ h) shut l)) (refl, refl)
     (mid.faults, n, c.made.2, same ∙ in_session, inl refl, rw op.made.2 t.notes) (λ _. c.made.1 ∙ sym shut)
     (sound_then v.shelf mid.shelf w.shelf op.sound c.sound) (λ e. absurd (c.safe (op.sound (t.sound e).0).0 refl)) (omega (arith, op.want_counts, c.want_counts)) (λ x e. no_want (wanted h) u x)
 opened_put {out = out} {o = o} {h = h} i p facts answer.NoMemory v w t u at in_session next (inl m) =
@@ -376,7 +377,7 @@ opened_put {out = out} {o = o} {h = h} i p facts answer.NoMemory v w t u at in_s
     refl
     (c.sessions ∙ op.sessions) (c.runs ∙ op.runs)
     (c.made.2 ∙ op.made.2 ∙ t.are_faults ∙ sym (faults_push_none t.rows q refl))
-    (in_session ∙ next) in_session (λ x. absurd (cc x)) refl (rw (c.made.2, op.made.2) t.notes) (λ x. absurd (cc x))
+    (in_session ∙ next) in_session (λ x. absurd (cc x)) (refl, refl) (rw (c.made.2, op.made.2) t.notes) (λ x. absurd (cc x))
     (sound_then v.shelf mid.shelf w.shelf op.sound c.sound) (λ e. c.made.2 ∙ op.made.2 ∙ t.safe e) (omega (arith, op.want_counts, c.want_counts)) (λ x e. rose_later out.shelf.wants mid.shelf.wants w.shelf.wants before c.made.4)
 opened_put {o = o} {h = h} i p facts answer.Done v w t u at in_session next (inr m) = absurd (cc m.0)
 opened_put {out = out} {o = o} {h = h} i p facts answer.Fault v w t u at in_session next (inr m) =
@@ -390,7 +391,7 @@ opened_put {out = out} {o = o} {h = h} i p facts answer.Fault v w t u at in_sess
     ((refl, refl, refl, op.made.0), (refl, refl, op.counts, op.made.4, omega arith, refl), op.counts, op.want_counts)
     refl op.sessions op.runs
     (op.made.2 ∙ ap (λ (ns : List FaultNote). ns ++ n ∷ []) t.are_faults ∙ sym (faults_push_some t.rows q n refl))
-    (in_session ∙ next) in_session (λ _ l. absurd (not_live o (Tried (trying o h) i facts answer.Fault ∷ h) shut l)) refl
+    (in_session ∙ next) in_session (λ _ l. absurd (not_live o (Tried (trying o h) i facts answer.Fault ∷ h) shut l)) (refl, refl)
     (v.faults, n, op.made.2, in_session, inr (refl, next_differs (trying o h) (session_of h) next), t.notes) (λ _. op.made.1 ∙ sym shut)
     op.sound (λ e. absurd (op.safe (t.sound e).0 refl)) op.want_counts (λ x e. no_want (wanted h) u x)
 opened_put {out = out} {o = o} {h = h} i p facts answer.NoMemory v w t u at in_session next (inr m) =
@@ -400,5 +401,5 @@ opened_put {out = out} {o = o} {h = h} i p facts answer.NoMemory v w t u at in_s
     appended t q (Tried (trying o h) i facts answer.NoMemory ∷ h) [] w.shelf w.kit.writer w.runs w.sessions w.faults
     refl refl ((refl, refl, refl, op.made.0), λ e. op.made.4, op.counts, op.want_counts) refl op.sessions op.runs
     (op.made.2 ∙ t.are_faults ∙ sym (faults_push_none t.rows q refl))
-    (in_session ∙ next) in_session (λ x. absurd (cc x)) refl (rw op.made.2 t.notes) (λ x. absurd (cc x))
+    (in_session ∙ next) in_session (λ x. absurd (cc x)) (refl, refl) (rw op.made.2 t.notes) (λ x. absurd (cc x))
     op.sound (λ e. op.made.2 ∙ t.safe e) op.want_counts (λ x e. rose_later out.shelf.wants v.shelf.wants w.shelf.wants t.wants op.made.4)

@@ -1,5 +1,5 @@
 -- What a turn does to the job.
-use Rattle.std.proofs.Common.{◌≡◌, ℕ, suc, ◌+◌, ◌≤◌, ◌⊎◌, inl, inr, Bool, true, false, ◌==◌, ◌&&◌, List, [], ◌∷◌, ◌++◌, length, Some, None, refl, ap, sym, ◌∙◌, subst, arith, length-append, if◌then◌else◌, add-zero, zero-add}
+use Rattle.std.proofs.Common.{◌≡◌, ℕ, ◌+◌, ◌≤◌, ◌⊎◌, inl, inr, Bool, true, false, ◌==◌, ◌&&◌, List, [], ◌∷◌, ◌++◌, length, map, Some, None, refl, ap, sym, ◌∙◌, subst, arith, length-append, if◌then◌else◌}
 use Rattle.fifo_core.specs.declared.types.FifoOptions.{FifoOptions}
 use Rattle.fifo_core.specs.declared.types.PacketFacts.{PacketFacts}
 use Rattle.fifo_core.specs.declared.types.Fate.{Fate}
@@ -17,22 +17,24 @@ use Rattle.slave.specs.declared.records.SessionNote.{SessionNote}
 use Rattle.slave.specs.declared.records.FaultAt.TheVariants.{Put}
 use Rattle.slave.specs.declared.records.FaultNote.{FaultNote}
 use Rattle.rmx_edge.specs.Count.{Rose}
+use Rattle.slave.specs.Given.{Given, Sent, Swept, index_of, turn_of, end_from, IsGapless}
 use Rattle.slave.specs.Runs.{Joins, AreInOrder}
+use Rattle.slave.proofs.Lists.{joins_later, order_later}
 use Rattle.slave.specs.Job.{JobView, KitOf, Writer, WriterAfter, Calls, Puts, OpensAndPuts, Settles, is_done}
-use Rattle.slave.specs.Table.{if_written, Table, ahead_of, Indexed}
-use Rattle.slave.proofs.Rows.{get_end, indexed_push}
+use Rattle.slave.specs.Table.{if_written, if_given, indices, Table, ahead_of}
+use Rattle.slave.proofs.Rows.{map_push, gives_last, end_push, indices_push}
 use Rattle.fifo_core.specs.declared.types.After.{After}
 use Rattle.fifo_core.specs.declared.types.After.TheVariants as after
 use Rattle.fifo_core.specs.declared.types.Action.{Action}
 use Rattle.fifo_core.specs.declared.types.Action.TheVariants as action
 use Rattle.fifo_core.specs.declared.state.FifoState.{FifoState}
-use Rattle.fifo_core.specs.History.{action_of, needs_restart, after_answer_of, action_in, is_waiting}
+use Rattle.fifo_core.specs.History.{action_of, needs_restart, after_answer_of, action_in, is_waiting, flushed_in, flush_of}
 use Rattle.fifo_core.specs.State.{Shows, next_of}
-use Rattle.fifo_core.specs.Follows.{Turn, Comes, MayWant, Made, Runs}
+use Rattle.fifo_core.specs.Follows.{Turn, MayWant, Turned, Made, Runs, Follows}
 use Rattle.slave.specs.Origin.{facts_of}
-use Rattle.slave.specs.Table.{HasPlaces, Stands, Holds, Tells, Ends, Concludes, Primed, Acts, Keeps, Grows, expected_in, turns_from}
+use Rattle.slave.specs.Table.{HasPlaces, Stands, Holds, Tells, Ends, Concludes, Primed, PrimedFor, Acts, Sweeps, KeepsAll, GrowsAll}
 use Rattle.slave.specs.Job.{is_fault, MakesRoom}
-use Rattle.slave.proofs.Later.{turn_adds, turn_dead}
+use Rattle.slave.proofs.Later.{turn_adds, turn_dead, fated_adds, fated_dead}
 use Rattle.slave.proofs.Steps.{widened, recorded, want_before, want_now, put_made, opened_put, fault_closes}
 
 same_fate : {f g : Fate} → after.Settle f ≡ after.Settle g → f ≡ g
@@ -42,17 +44,17 @@ told_fates : (h g : History) → MayWant h g → fates_of g ≡ fates_of h
 told_fates h g (inl e) = rw e refl
 told_fates h g (inr e) = rw e refl
 
-told_table : {out : Origin} {o : FifoOptions} {L : List Packet} {ahead : List (ℕ × Packet)} {shelf : ShelfState} {writer : Writer} {runs : List Run} {sessions : List SessionNote} {faults : List FaultNote}
+told_table : {out : Origin} {o : FifoOptions} {T : List Given} {ahead : List (ℕ × Packet)} {shelf : ShelfState} {writer : Writer} {runs : List Run} {sessions : List SessionNote} {faults : List FaultNote}
     (h g : History) (i : ℕ) (facts : PacketFacts) (a : Answer) → MayWant h g → (is_fault a ≡ false → g ≡ h)
-    → Table out o L (Tried (trying o h) i facts a ∷ h) ahead shelf writer runs sessions faults → Table out o L (Tried (trying o g) i facts a ∷ g) ahead shelf writer runs sessions faults
-told_table {out = out} {o = o} {L = L} {ahead = ahead} {shelf = shelf} {writer = writer} {runs = runs} {sessions = sessions} {faults = faults} h g i facts a (inl e) same t =
-    subst (λ (x : History). Table out o L (Tried (trying o x) i facts a ∷ x) ahead shelf writer runs sessions faults) (sym e) t
-told_table {out = out} {o = o} {L = L} {ahead = ahead} {shelf = shelf} {writer = writer} {runs = runs} {sessions = sessions} {faults = faults} h g i facts answer.Fault (inr e) same t =
-    subst (λ (x : History). Table out o L (Tried (trying o x) i facts answer.Fault ∷ x) ahead shelf writer runs sessions faults) (sym e) (want_before (trying o h) i facts t)
-told_table {out = out} {o = o} {L = L} {ahead = ahead} {shelf = shelf} {writer = writer} {runs = runs} {sessions = sessions} {faults = faults} h g i facts answer.Done (inr e) same t =
-    subst (λ (x : History). Table out o L (Tried (trying o x) i facts answer.Done ∷ x) ahead shelf writer runs sessions faults) (sym (same refl)) t
-told_table {out = out} {o = o} {L = L} {ahead = ahead} {shelf = shelf} {writer = writer} {runs = runs} {sessions = sessions} {faults = faults} h g i facts answer.NoMemory (inr e) same t =
-    subst (λ (x : History). Table out o L (Tried (trying o x) i facts answer.NoMemory ∷ x) ahead shelf writer runs sessions faults) (sym (same refl)) t
+    → Table out o T (Tried (trying o h) i facts a ∷ h) ahead shelf writer runs sessions faults → Table out o T (Tried (trying o g) i facts a ∷ g) ahead shelf writer runs sessions faults
+told_table {out = out} {o = o} {T = T} {ahead = ahead} {shelf = shelf} {writer = writer} {runs = runs} {sessions = sessions} {faults = faults} h g i facts a (inl e) same t =
+    subst (λ (x : History). Table out o T (Tried (trying o x) i facts a ∷ x) ahead shelf writer runs sessions faults) (sym e) t
+told_table {out = out} {o = o} {T = T} {ahead = ahead} {shelf = shelf} {writer = writer} {runs = runs} {sessions = sessions} {faults = faults} h g i facts answer.Fault (inr e) same t =
+    subst (λ (x : History). Table out o T (Tried (trying o x) i facts answer.Fault ∷ x) ahead shelf writer runs sessions faults) (sym e) (want_before (trying o h) i facts t)
+told_table {out = out} {o = o} {T = T} {ahead = ahead} {shelf = shelf} {writer = writer} {runs = runs} {sessions = sessions} {faults = faults} h g i facts answer.Done (inr e) same t =
+    subst (λ (x : History). Table out o T (Tried (trying o x) i facts answer.Done ∷ x) ahead shelf writer runs sessions faults) (sym (same refl)) t
+told_table {out = out} {o = o} {T = T} {ahead = ahead} {shelf = shelf} {writer = writer} {runs = runs} {sessions = sessions} {faults = faults} h g i facts answer.NoMemory (inr e) same t =
+    subst (λ (x : History). Table out o T (Tried (trying o x) i facts answer.NoMemory ∷ x) ahead shelf writer runs sessions faults) (sym (same refl)) t
 
 -- a fault settles no packet as written
 fault_fate : (p : Packet) (w b n : Bool) (m : ℕ) (f : Fate)
@@ -91,17 +93,17 @@ joined_some rs [] r e z = let x : [] ≡ r ∷ [] = sym z ∙ e in cc x
 joined_some rs (q ∷ front) r e z = let x : [] ≡ q ∷ (front ++ r ∷ []) = sym z ∙ e in cc x
 
 -- which places are left after a turn
-settled_places : {out : Origin} {o : FifoOptions} {L : List Packet} {p : Packet} {h : History} (a : Answer) (v w x : JobView) (r : After) (f : Fate) (g : History)
-    → Holds out o L p h a v → Tells o h (length L) (facts_of out p) a v r w → Settles (length L) f w x
+settled_places : {out : Origin} {o : FifoOptions} {T : List Given} {i : ℕ} {p : Packet} {h : History} (a : Answer) (v w x : JobView) (r : After) (f : Fate) (g : History)
+    → Holds out o T i p h a v → Tells o h i (facts_of out p) a v r w → Settles i f w x
     → MayWant h g → (is_fault a ≡ false → g ≡ h) → (is_fault a ≡ true → g ≡ h → (2 ≤ w.run_places) × (1 ≤ w.session_places) × (1 ≤ w.fault_places))
-    → after_of o g (length L) (facts_of out p) a ≡ after.Settle f → next_of x.fifo ≡ length L + 1
-    → HasPlaces o (Fated (length L) f ∷ Tried (trying o g) (length L) (facts_of out p) a ∷ g) x
-settled_places {out = out} {o = o} {L = L} {p = p} {h = h} answer.Done v w x r f g d k s may same granted is next =
+    → after_of o g i (facts_of out p) a ≡ after.Settle f → next_of x.fifo ≡ i + 1
+    → HasPlaces o (Fated i f ∷ Tried (trying o g) i (facts_of out p) a ∷ g) x
+settled_places {out = out} {o = o} {T = T} {i = i} {p = p} {h = h} answer.Done v w x r f g d k s may same granted is next =
     let ug : wanted g ≡ false = rw (same refl) d.unwanted in
     let f_is : f ≡ fate.Written (trying o h) = sym (done_fate (wanted g) (fate.Written (trying o g)) f ug is) ∙ rw (same refl) refl in
     record {
       runs = inl (elim d.room [
-        | inl j ↦ (let j' : Joins w.runs (length L) f = rw (k.runs, f_is) j in
+        | inl j ↦ (let j' : Joins w.runs i f = rw (k.runs, f_is) j in
             let e = s.kept_places j' in omega (arith, e, k.run_places, d.last_place))
         | inr two ↦ omega (arith, two, k.run_places, s.run_places)
       ]);
@@ -109,7 +111,7 @@ settled_places {out = out} {o = o} {L = L} {p = p} {h = h} answer.Done v w x r f
       faults = λ u. omega (arith, d.places refl, k.fault_places, s.fault_places);
       first = λ z. absurd (joined_some x.runs s.joins.0 s.joins.1 s.joins.2 z);
     }
-settled_places {out = out} {o = o} {L = L} {p = p} {h = h} answer.Fault v w x r f g d k s (inl e) same granted is next =
+settled_places {out = out} {o = o} {T = T} {i = i} {p = p} {h = h} answer.Fault v w x r f g d k s (inl e) same granted is next =
     let places = granted refl e in
     record {
       runs = inl (omega (arith, places.0, s.run_places));
@@ -117,35 +119,34 @@ settled_places {out = out} {o = o} {L = L} {p = p} {h = h} answer.Fault v w x r 
       faults = λ u. omega (arith, places.2, s.fault_places);
       first = λ z. absurd (joined_some x.runs s.joins.0 s.joins.1 s.joins.2 z);
     }
-settled_places {out = out} {o = o} {L = L} {p = p} {h = h} answer.Fault v w x r f g d k s (inr e) same granted is next =
+settled_places {out = out} {o = o} {T = T} {i = i} {p = p} {h = h} answer.Fault v w x r f g d k s (inr e) same granted is next =
     let wg : wanted g ≡ true = rw e refl in
-    let f_is = wanted_fate (wanted g) (after_answer_of o g (length L) (facts_of out p) answer.Fault) f wg is in
+    let f_is = wanted_fate (wanted g) (after_answer_of o g i (facts_of out p) answer.Fault) f wg is in
     let not_free : wanted g ≡ false → ⊥ = λ (u : wanted g ≡ false). (let t : true ≡ false = sym wg ∙ u in cc t) in
     record {
-      runs = inr (wg, rw (next, f_is) s.joins);
+      runs = inr (wg, rw next (subst (λ (y : Fate). Joins x.runs (i + 1) y) (sym f_is) s.joins));
       sessions = λ u l. absurd (not_free u);
       faults = λ u. absurd (not_free u);
       first = λ z. absurd (joined_some x.runs s.joins.0 s.joins.1 s.joins.2 z);
     }
-settled_places {out = out} {o = o} {L = L} {p = p} {h = h} answer.NoMemory v w x r f g d k s may same granted is next =
+settled_places {out = out} {o = o} {T = T} {i = i} {p = p} {h = h} answer.NoMemory v w x r f g d k s may same granted is next =
     let f_is = want_fate (wanted g) f is in
     record {
-      runs = inr (refl, rw (next, f_is) s.joins);
+      runs = inr (refl, rw next (subst (λ (y : Fate). Joins x.runs (i + 1) y) (sym f_is) s.joins));
       sessions = λ u l. absurd (cc u);
       faults = λ u. absurd (cc u);
       first = λ z. absurd (joined_some x.runs s.joins.0 s.joins.1 s.joins.2 z);
     }
 
 -- the turn is over
-pub settled : {out : Origin} {o : FifoOptions} {L : List Packet} {p : Packet} {h : History} {a : Answer} (v w x : JobView) (r : After) (f : Fate)
-    → Holds out o L p h a v → Tells o h (length L) (facts_of out p) a v r w → r ≡ after.Settle f → Settles (length L) f w x → Ends out o L p h a x
-settled {out = out} {o = o} {L = L} {p = p} {h = h} {a = a} v w x r f d k e s =
-    let i = length L in
+pub settled : {out : Origin} {o : FifoOptions} {T : List Given} {i : ℕ} {p : Packet} {h : History} {a : Answer} (v w x : JobView) (r : After) (f : Fate)
+    → Holds out o T i p h a v → Tells o h i (facts_of out p) a v r w → r ≡ after.Settle f → Settles i f w x → Ends out o T i p h a x
+settled {out = out} {o = o} {T = T} {i = i} {p = p} {h = h} {a = a} v w x r f d k e s =
     let facts = facts_of out p in
     let g = k.told in
     let is = sym k.result ∙ e in
-    let same_count : length (fates_of g) ≡ length L = rw (told_fates h g k.may) d.count in
-    let moved : Table out o (L ++ p ∷ []) (Tried (trying o g) i facts a ∷ g) (if_written p f) x.shelf x.kit.writer w.runs x.sessions x.faults
+    let same_count : length (fates_of g) ≡ length T = rw (told_fates h g k.may) d.count in
+    let moved : Table out o (T ++ Sent i p ∷ []) (Tried (trying o g) i facts a ∷ g) (if_written p f) x.shelf x.kit.writer w.runs x.sessions x.faults
     = rw (s.shelf ∙ k.shelf, s.kit ∙ k.kit, s.sessions ∙ k.sessions, s.faults ∙ k.faults, k.runs, ← ahead_is o h g i p facts a f is k.not_asked d.unwanted)
     (told_table h g i facts a k.may k.not_asked d.table) in
     record {
@@ -155,12 +156,12 @@ settled {out = out} {o = o} {L = L} {p = p} {h = h} {a = a} v w x r f d k e s =
       result = is;
       stands = record {
         shows = rw s.fifo (rw e at k.shows);
-        next = ap next_of s.fifo ∙ k.next ∙ d.next ∙ sym (length-append L (p ∷ []));
+        next = ap next_of s.fifo ∙ k.next ∙ d.next ∙ sym (end_push 0 T (Sent i p));
         kit = rw (s.kit ∙ k.kit) d.kit;
-        indexed = indexed_push 0 (fates_of g) i f (rw (told_fates h g k.may) d.indexed) (omega (arith, same_count));
-        order = rw (length-append L (p ∷ [])) (s.order (rw k.runs d.order));
-        count = omega (arith, length-append (fates_of g) ((i, f) ∷ []), length-append L (p ∷ []), same_count);
-        table = recorded L p f same_count moved s.fates;
+        indexed = indices_push T (Sent i p) (fates_of g) i f (rw (told_fates h g k.may) d.indexed) refl;
+        order = rw (end_push 0 T (Sent i p)) (s.order (rw k.runs d.order));
+        count = omega (arith, length-append (fates_of g) ((i, f) ∷ []), length-append T (Sent i p ∷ []), same_count);
+        table = recorded T (Sent i p) i f same_count moved (s.fates (rw k.runs d.order));
         places = settled_places a v w x r f g d k s k.may k.not_asked k.granted is (ap next_of s.fifo ∙ k.next ∙ d.next);
       };
     }
@@ -192,26 +193,26 @@ is_fault_only answer.Fault e = refl
 is_fault_only answer.NoMemory e = absurd (cc e)
 
 -- what is known where the packet is to be tried again
-pub record Retries (out : Origin) (o : FifoOptions) (L : List Packet) (p : Packet) (h : History) (w : JobView) : Type 0 where
-  pub shows : Shows o h (Some (length L, facts_of out p)) w.fifo
-  pub next : next_of w.fifo ≡ length L + 1
+pub record Retries (out : Origin) (o : FifoOptions) (T : List Given) (i : ℕ) (p : Packet) (h : History) (w : JobView) : Type 0 where
+  pub shows : Shows o h (Some (i, facts_of out p)) w.fifo
+  pub next : next_of w.fifo ≡ i + 1
   pub kit : KitOf out w.kit
-  pub count : length (fates_of h) ≡ length L
-  pub indexed : Indexed 0 (fates_of h)
-  pub order : AreInOrder (length L) w.runs
+  pub count : length (fates_of h) ≡ length T
+  pub indexed : indices (fates_of h) ≡ map index_of T
+  pub order : AreInOrder i w.runs
   pub unwanted : wanted h ≡ false
   pub closed_now : mode_is_live (mode_of o h) ≡ false
-  pub table : Table out o (L ++ p ∷ []) h [] w.shelf w.kit.writer w.runs w.sessions w.faults
+  pub table : Table out o (T ++ Sent i p ∷ []) h [] w.shelf w.kit.writer w.runs w.sessions w.faults
   pub run_places : 1 ≤ w.run_places
   pub session_places : 1 ≤ w.session_places
   pub fault_places : 1 ≤ w.fault_places
-  pub room : Joins w.runs (length L) (fate.Written (trying o h)) ⊎ (2 ≤ w.run_places)
+  pub room : Joins w.runs i (fate.Written (trying o h)) ⊎ (2 ≤ w.run_places)
 
-pub retries : {out : Origin} {o : FifoOptions} {L : List Packet} {p : Packet} {h : History} {a : Answer} (v w : JobView) (r : After)
-    → Holds out o L p h a v → Tells o h (length L) (facts_of out p) a v r w → r ≡ after.Again
-    → (a ≡ answer.Fault) × Retries out o L p (Tried (trying o h) (length L) (facts_of out p) answer.Fault ∷ h) w
-retries {out = out} {o = o} {L = L} {p = p} {h = h} {a = a} v w r d k e =
-    let known = again_fault o k.told (length L) (facts_of out p) a (sym k.result ∙ e) in
+pub retries : {out : Origin} {o : FifoOptions} {T : List Given} {i : ℕ} {p : Packet} {h : History} {a : Answer} (v w : JobView) (r : After)
+    → Holds out o T i p h a v → Tells o h i (facts_of out p) a v r w → r ≡ after.Again
+    → (a ≡ answer.Fault) × Retries out o T i p (Tried (trying o h) i (facts_of out p) answer.Fault ∷ h) w
+retries {out = out} {o = o} {T = T} {i = i} {p = p} {h = h} {a = a} v w r d k e =
+    let known = again_fault o k.told i (facts_of out p) a (sym k.result ∙ e) in
     let same = free_told h k.told k.may known.1 in
     let is = is_fault_only a known.0 in
     let places = k.granted known.0 same in (
@@ -224,7 +225,7 @@ retries {out = out} {o = o} {L = L} {p = p} {h = h} {a = a} v w r d k e =
         indexed = d.indexed;
         order = rw k.runs d.order;
         unwanted = d.unwanted;
-        closed_now = fault_closes o h (trying o h) (length L) (facts_of out p);
+        closed_now = fault_closes o h (trying o h) i (facts_of out p);
         table = rw (k.shelf, k.kit, k.sessions, k.faults, k.runs) (rw is at d.table);
         run_places = omega (arith, places.0);
         session_places = places.1;
@@ -234,7 +235,7 @@ retries {out = out} {o = o} {L = L} {p = p} {h = h} {a = a} v w r d k e =
     )
 
 -- the writing of a shelf on which a session is to be opened
-pub retry_idle : {out : Origin} {o : FifoOptions} {L : List Packet} {p : Packet} {h : History} (w : JobView) → Retries out o L p h w → w.shelf.writing ≡ false
+pub retry_idle : {out : Origin} {o : FifoOptions} {T : List Given} {i : ℕ} {p : Packet} {h : History} (w : JobView) → Retries out o T i p h w → w.shelf.writing ≡ false
 retry_idle w t = t.table.writing t.unwanted ∙ t.closed_now
 
 opened_same : {out : Origin} {p : Packet} {i : ℕ} (b : Answer) (w x : JobView) → OpensAndPuts out p (Put i) w b x
@@ -251,9 +252,9 @@ closed_trying : (o : FifoOptions) (h : History) → mode_is_live (mode_of o h) �
 closed_trying o h e = rw e refl
 
 -- a session is opened for the packet
-pub opened_holds : {out : Origin} {o : FifoOptions} {L : List Packet} {p : Packet} {h : History} (b : Answer) (w x : JobView)
-    → Retries out o L p h w → OpensAndPuts out p (Put (length L)) w b x → Holds out o L p h b x
-opened_holds {out = out} {o = o} {L = L} {p = p} {h = h} b w x t c =
+pub opened_holds : {out : Origin} {o : FifoOptions} {T : List Given} {i : ℕ} {p : Packet} {h : History} (b : Answer) (w x : JobView)
+    → Retries out o T i p h w → OpensAndPuts out p (Put i) w b x → Holds out o T i p h b x
+opened_holds {out = out} {o = o} {T = T} {i = i} {p = p} {h = h} b w x t c =
     let same = opened_same b w x c in
     record {
       shows = rw same.0 t.shows;
@@ -263,26 +264,26 @@ opened_holds {out = out} {o = o} {L = L} {p = p} {h = h} b w x t c =
       indexed = t.indexed;
       order = rw same.1 t.order;
       unwanted = t.unwanted;
-      table = opened_put (length L) p (facts_of out p) b w x t.table t.unwanted (get_end L p) t.shows.session (closed_trying o h t.closed_now) c;
+      table = opened_put i p (facts_of out p) b w x t.table t.unwanted (gives_last T i p) t.shows.session (closed_trying o h t.closed_now) c;
       room = rw (same.1, same.2) t.room;
       last_place = omega (arith, t.run_places, same.2);
       places = λ e. omega (arith, t.fault_places, same.3 e);
     }
 
 -- what is known where the packet is to be written in the open session
-pub record Writes (out : Origin) (o : FifoOptions) (L : List Packet) (p : Packet) (h : History) (v : JobView) : Type 0 where
-  pub shows : Shows o h (Some (length L, facts_of out p)) v.fifo
-  pub next : next_of v.fifo ≡ length L + 1
+pub record Writes (out : Origin) (o : FifoOptions) (T : List Given) (i : ℕ) (p : Packet) (h : History) (v : JobView) : Type 0 where
+  pub shows : Shows o h (Some (i, facts_of out p)) v.fifo
+  pub next : next_of v.fifo ≡ i + 1
   pub kit : KitOf out v.kit
-  pub count : length (fates_of h) ≡ length L
-  pub indexed : Indexed 0 (fates_of h)
-  pub order : AreInOrder (length L) v.runs
+  pub count : length (fates_of h) ≡ length T
+  pub indexed : indices (fates_of h) ≡ map index_of T
+  pub order : AreInOrder i v.runs
   pub unwanted : wanted h ≡ false
   pub live : mode_of o h ≡ Live
-  pub table : Table out o (L ++ p ∷ []) h [] v.shelf v.kit.writer v.runs v.sessions v.faults
+  pub table : Table out o (T ++ Sent i p ∷ []) h [] v.shelf v.kit.writer v.runs v.sessions v.faults
   pub run_places : 1 ≤ v.run_places
   pub fault_places : 1 ≤ v.fault_places
-  pub room : Joins v.runs (length L) (fate.Written (trying o h)) ⊎ (2 ≤ v.run_places)
+  pub room : Joins v.runs i (fate.Written (trying o h)) ⊎ (2 ≤ v.run_places)
 
 put_faults : {out : Origin} {calls : List ShelfCall} {i : ℕ} (a : Answer) (v w : JobView) → Calls out calls (Put i) v a w → is_done a ≡ true → w.fault_places ≡ v.fault_places
 put_faults answer.Done v w c e = c.made.3
@@ -290,15 +291,15 @@ put_faults answer.Fault v w c e = absurd (cc e)
 put_faults answer.NoMemory v w c e = absurd (cc e)
 
 -- the packets of the session that is open
-abbrev pub written_before : {out : Origin} {o : FifoOptions} {L : List Packet} {p : Packet} {h : History} {v : JobView} → Writes out o L p h v → List Packet
+abbrev pub written_before : {out : Origin} {o : FifoOptions} {T : List Given} {i : ℕ} {p : Packet} {h : History} {v : JobView} → Writes out o T i p h v → List Packet
 written_before t = t.table.last.last.written
 
-pub put_after : {out : Origin} {o : FifoOptions} {L : List Packet} {p : Packet} {h : History} {v : JobView} (t : Writes out o L p h v) → WriterAfter out (written_before t) v.kit.writer
+pub put_after : {out : Origin} {o : FifoOptions} {T : List Given} {i : ℕ} {p : Packet} {h : History} {v : JobView} (t : Writes out o T i p h v) → WriterAfter out (written_before t) v.kit.writer
 put_after t = (t.table.last.is_open t.unwanted t.live).1
 
-pub put_holds : {out : Origin} {o : FifoOptions} {L : List Packet} {p : Packet} {h : History} (a : Answer) (v w : JobView)
-    (t : Writes out o L p h v) → Puts out (written_before t) p (Put (length L)) v a w → Holds out o L p h a w
-put_holds {out = out} {o = o} {L = L} {p = p} {h = h} a v w t made =
+pub put_holds : {out : Origin} {o : FifoOptions} {T : List Given} {i : ℕ} {p : Packet} {h : History} (a : Answer) (v w : JobView)
+    (t : Writes out o T i p h v) → Puts out (written_before t) p (Put i) v a w → Holds out o T i p h a w
+put_holds {out = out} {o = o} {T = T} {i = i} {p = p} {h = h} a v w t made =
     let c = made.calls in
     record {
       shows = rw c.fifo t.shows;
@@ -308,13 +309,13 @@ put_holds {out = out} {o = o} {L = L} {p = p} {h = h} a v w t made =
       indexed = t.indexed;
       order = rw c.runs t.order;
       unwanted = t.unwanted;
-      table = put_made (length L) p (facts_of out p) a v w t.table t.unwanted t.live (get_end L p) t.shows.session made;
+      table = put_made i p (facts_of out p) a v w t.table t.unwanted t.live (gives_last T i p) t.shows.session made;
       room = rw (c.runs, c.run_places) t.room;
       last_place = omega (arith, t.run_places, c.run_places);
       places = λ e. omega (arith, t.fault_places, put_faults a v w c e);
     }
 
-pub put_writing : {out : Origin} {o : FifoOptions} {L : List Packet} {p : Packet} {h : History} (v : JobView) → Writes out o L p h v → v.shelf.writing ≡ true
+pub put_writing : {out : Origin} {o : FifoOptions} {T : List Given} {i : ℕ} {p : Packet} {h : History} (v : JobView) → Writes out o T i p h v → v.shelf.writing ≡ true
 put_writing v t = t.table.writing t.unwanted ∙ rw t.live refl
 
 -- what an action says of the machine
@@ -349,193 +350,235 @@ settle_bools p f false (Dead n) wait needs e = (rw (same_settled e) refl, λ t. 
 a_place : {o : FifoOptions} {h : History} (v : JobView) → HasPlaces o h v → wanted h ≡ false → 1 ≤ v.run_places
 a_place v k u = elim k.runs [ inl le ↦ le | inr m ↦ absurd (let t : true ≡ false = sym m.0 ∙ u in cc t) ]
 
-pub primed_writes : {out : Origin} {o : FifoOptions} {L : List Packet} {p : Packet} {h : History} (v w : JobView)
-    → Primed out o L p h v → action.Write ≡ action_of o h (length L) (facts_of out p)
-    → Shows o h (Some (length L, facts_of out p)) w.fifo → next_of w.fifo ≡ length L + 1
+pub primed_writes : {out : Origin} {o : FifoOptions} {T : List Given} {i : ℕ} {p : Packet} {h : History} (v w : JobView)
+    → PrimedFor out o T i p h v → action.Write ≡ action_of o h i (facts_of out p)
+    → Shows o h (Some (i, facts_of out p)) w.fifo → next_of w.fifo ≡ i + 1
     → w.shelf ≡ v.shelf → w.kit ≡ v.kit → w.runs ≡ v.runs → w.sessions ≡ v.sessions → w.faults ≡ v.faults → w.run_places ≡ v.run_places → w.fault_places ≡ v.fault_places
-    → Writes out o L p h w
-primed_writes {out = out} {o = o} {L = L} {p = p} {h = h} v w k e shows next a y b c d f g =
-    let is = write_bools (wanted h) (mode_of o h) (is_waiting o h (facts_of out p)) (needs_restart o h (length L) (facts_of out p)) e in
+    → Writes out o T i p h w
+primed_writes {out = out} {o = o} {T = T} {i = i} {p = p} {h = h} v w k e shows next a y b c d f g =
+    let is = write_bools (wanted h) (mode_of o h) (is_waiting o h (facts_of out p)) (needs_restart o h i (facts_of out p)) e in
     record {
       shows = shows;
       next = next;
-      kit = rw y k.stands.kit;
-      count = k.stands.count;
-      indexed = k.stands.indexed;
-      order = rw b k.stands.order;
+      kit = rw y k.kit;
+      count = k.count;
+      indexed = k.indexed;
+      order = rw b k.order;
       unwanted = is.0;
       live = is.1;
-      table = rw (a, y, b, c, d) (widened p k.stands.count k.stands.table);
-      run_places = omega (arith, a_place v k.stands.places is.0, f);
-      fault_places = omega (arith, k.stands.places.faults is.0, g);
+      table = rw (a, y, b, c, d) k.table;
+      run_places = omega (arith, a_place v k.places is.0, f);
+      fault_places = omega (arith, k.places.faults is.0, g);
       room = rw (b, f) (rw (← e) at (k.room is.0));
     }
 
-pub primed_retries : {out : Origin} {o : FifoOptions} {L : List Packet} {p : Packet} {h : History} (v w : JobView)
-    → Primed out o L p h v → action.OpenAndWrite ≡ action_of o h (length L) (facts_of out p)
-    → Shows o h (Some (length L, facts_of out p)) w.fifo → next_of w.fifo ≡ length L + 1
+pub primed_retries : {out : Origin} {o : FifoOptions} {T : List Given} {i : ℕ} {p : Packet} {h : History} (v w : JobView)
+    → PrimedFor out o T i p h v → action.OpenAndWrite ≡ action_of o h i (facts_of out p)
+    → Shows o h (Some (i, facts_of out p)) w.fifo → next_of w.fifo ≡ i + 1
     → w.shelf ≡ v.shelf → w.kit ≡ v.kit → w.runs ≡ v.runs → w.sessions ≡ v.sessions → w.faults ≡ v.faults → w.run_places ≡ v.run_places
-    → w.session_places ≡ v.session_places → w.fault_places ≡ v.fault_places → Retries out o L p h w
-primed_retries {out = out} {o = o} {L = L} {p = p} {h = h} v w k e shows next a y b c d f s g =
-    let is = open_bools (wanted h) (mode_of o h) (is_waiting o h (facts_of out p)) (needs_restart o h (length L) (facts_of out p)) e in
+    → w.session_places ≡ v.session_places → w.fault_places ≡ v.fault_places → Retries out o T i p h w
+primed_retries {out = out} {o = o} {T = T} {i = i} {p = p} {h = h} v w k e shows next a y b c d f s g =
+    let is = open_bools (wanted h) (mode_of o h) (is_waiting o h (facts_of out p)) (needs_restart o h i (facts_of out p)) e in
     record {
       shows = shows;
       next = next;
-      kit = rw y k.stands.kit;
-      count = k.stands.count;
-      indexed = k.stands.indexed;
-      order = rw b k.stands.order;
+      kit = rw y k.kit;
+      count = k.count;
+      indexed = k.indexed;
+      order = rw b k.order;
       unwanted = is.0;
       closed_now = is.1;
-      table = rw (a, y, b, c, d) (widened p k.stands.count k.stands.table);
-      run_places = omega (arith, a_place v k.stands.places is.0, f);
-      session_places = omega (arith, k.stands.places.sessions is.0 is.1, s);
-      fault_places = omega (arith, k.stands.places.faults is.0, g);
+      table = rw (a, y, b, c, d) k.table;
+      run_places = omega (arith, a_place v k.places is.0, f);
+      session_places = omega (arith, k.places.sessions is.0 is.1, s);
+      fault_places = omega (arith, k.places.faults is.0, g);
       room = rw (b, f) (rw (← e) at (k.room is.0));
     }
 
 -- the room for a fate that is settled at once
-pub settle_place : {out : Origin} {o : FifoOptions} {L : List Packet} {p : Packet} {h : History} (v : JobView) (f : Fate)
-    → Primed out o L p h v → action.Settle f ≡ action_of o h (length L) (facts_of out p) → (1 ≤ v.run_places) ⊎ Joins v.runs (length L) f
-settle_place {out = out} {o = o} {L = L} {p = p} {h = h} v f k e =
-    let is = settle_bools p f (wanted h) (mode_of o h) (is_waiting o h (facts_of out p)) (needs_restart o h (length L) (facts_of out p)) e in
-    elim k.stands.places.runs [ inl le ↦ inl le | inr m ↦ inr (rw (is.1 m.0, ← k.stands.next) m.1) ]
+place_by : {o : FifoOptions} {h : History} (i : ℕ) (v : JobView) (f : Fate) → HasPlaces o h v → next_of v.fifo ≤ i → (wanted h ≡ true → f ≡ fate.NoMemory)
+    → (1 ≤ v.run_places) ⊎ Joins v.runs i f
+place_by i v f k later only = elim k.runs [ inl le ↦ inl le | inr m ↦ inr (rw (only m.0) (joins_later v.runs (next_of v.fifo) i m.1 later)) ]
 
-settled_runs : {out : Origin} {o : FifoOptions} {L : List Packet} {p : Packet} {h : History} (v w x : JobView) (f : Fate) (b : Bool) → wanted h ≡ b
-    → Primed out o L p h v → action.Settle f ≡ action_of o h (length L) (facts_of out p) → (wanted h ≡ true → f ≡ fate.NoMemory)
-    → w.runs ≡ v.runs → w.run_places ≡ v.run_places → Settles (length L) f w x → next_of x.fifo ≡ length L + 1
+pub settle_place : {out : Origin} {o : FifoOptions} {T : List Given} {i : ℕ} {p : Packet} {h : History} (v : JobView) (f : Fate)
+    → PrimedFor out o T i p h v → action.Settle f ≡ action_of o h i (facts_of out p) → (1 ≤ v.run_places) ⊎ Joins v.runs i f
+settle_place {out = out} {o = o} {T = T} {i = i} {p = p} {h = h} v f k e =
+    let is = settle_bools p f (wanted h) (mode_of o h) (is_waiting o h (facts_of out p)) (needs_restart o h i (facts_of out p)) e in
+    place_by i v f k.places k.later is.1
+
+settled_runs : {out : Origin} {o : FifoOptions} {T : List Given} {t : Given} {h : History} (v w x : JobView) (f : Fate) (b : Bool) → wanted h ≡ b
+    → Primed out o T t f h v → (wanted h ≡ true → f ≡ fate.NoMemory)
+    → w.runs ≡ v.runs → w.run_places ≡ v.run_places → Settles (index_of t) f w x → next_of x.fifo ≡ index_of t + 1
     → (1 ≤ x.run_places) ⊎ ((wanted h ≡ true) × Joins x.runs (next_of x.fifo) fate.NoMemory)
-settled_runs {out = out} {L = L} v w x f true u k e only a b s next = inr (u, rw (next, ← only u) s.joins)
-settled_runs {out = out} {o = o} {L = L} {p = p} {h = h} v w x f false u k e only a b s next =
-    let room : Joins v.runs (length L) f ⊎ (2 ≤ v.run_places) = rw (← e) at (k.room u) in
-    let one = a_place v k.stands.places u in
-    inl (elim room [
-      | inl j ↦ (let j' : Joins w.runs (length L) f = rw a j in let same = s.kept_places j' in omega (arith, same, b, one))
+settled_runs {t = t} v w x f true u k only a b s next = inr (u, rw next (subst (λ (y : Fate). Joins x.runs (index_of t + 1) y) (only u) s.joins))
+settled_runs {t = t} v w x f false u k only a b s next =
+    let one = a_place v k.places u in
+    inl (elim (k.room u) [
+      | inl j ↦ (let j' : Joins w.runs (index_of t) f = rw a j in let same = s.kept_places j' in omega (arith, same, b, one))
       | inr two ↦ omega (arith, two, b, s.run_places)
     ])
 
-pub primed_settles : {out : Origin} {o : FifoOptions} {L : List Packet} {p : Packet} {h : History} (v w x : JobView) (f : Fate)
-    → Primed out o L p h v → action.Settle f ≡ action_of o h (length L) (facts_of out p)
-    → Shows o (Fated (length L) f ∷ h) None w.fifo → next_of w.fifo ≡ length L + 1
+-- a fate with which no call goes
+settled_at_once : {out : Origin} {o : FifoOptions} {T : List Given} {t : Given} {h : History} (v w x : JobView) (f : Fate)
+    → Primed out o T t f h v → if_given t f ≡ [] → (wanted h ≡ true → f ≡ fate.NoMemory)
+    → Shows o (Fated (index_of t) f ∷ h) None w.fifo → next_of w.fifo ≡ index_of t + 1
     → w.shelf ≡ v.shelf → w.kit ≡ v.kit → w.runs ≡ v.runs → w.sessions ≡ v.sessions → w.faults ≡ v.faults → w.run_places ≡ v.run_places
-    → w.session_places ≡ v.session_places → w.fault_places ≡ v.fault_places → Settles (length L) f w x → Acts out o L p h x
-primed_settles {out = out} {o = o} {L = L} {p = p} {h = h} v w x f k e shows next a y b c d r ss g s =
-    let is = settle_bools p f (wanted h) (mode_of o h) (is_waiting o h (facts_of out p)) (needs_restart o h (length L) (facts_of out p)) e in
-    let moved : Table out o (L ++ p ∷ []) h (if_written p f) x.shelf x.kit.writer w.runs x.sessions x.faults
-    = rw (s.shelf ∙ a, s.kit ∙ y, s.sessions ∙ c, s.faults ∙ d, b, is.0) (widened p k.stands.count k.stands.table) in
+    → w.session_places ≡ v.session_places → w.fault_places ≡ v.fault_places → Settles (index_of t) f w x → Stands out o (T ++ t ∷ []) (Fated (index_of t) f ∷ h) x
+settled_at_once {out = out} {o = o} {T = T} {t = t} {h = h} v w x f k nothing only shows next a y b c d r ss g s =
+    let moved : Table out o (T ++ t ∷ []) h (if_given t f) x.shelf x.kit.writer w.runs x.sessions x.faults
+    = rw (s.shelf ∙ a, s.kit ∙ y, s.sessions ∙ c, s.faults ∙ d, b, nothing) k.table in
     let same_next = ap next_of s.fifo ∙ next in
     record {
-      new = Fated (length L) f ∷ h;
-      acted = rw (← e) refl;
-      stands = record {
-        shows = rw s.fifo shows;
-        next = same_next ∙ sym (length-append L (p ∷ []));
-        kit = rw (s.kit ∙ y) k.stands.kit;
-        indexed = indexed_push 0 (fates_of h) (length L) f k.stands.indexed (omega (arith, k.stands.count));
-        order = rw (length-append L (p ∷ [])) (s.order (rw b k.stands.order));
-        count = omega (arith, length-append (fates_of h) ((length L, f) ∷ []), length-append L (p ∷ []), k.stands.count);
-        table = recorded L p f k.stands.count moved s.fates;
-        places = record {
-          runs = settled_runs v w x f (wanted h) refl k e is.1 b r s same_next;
-          sessions = λ u l. omega (arith, k.stands.places.sessions u l, s.session_places, ss);
-          faults = λ u. omega (arith, k.stands.places.faults u, s.fault_places, g);
-          first = λ z. absurd (joined_some x.runs s.joins.0 s.joins.1 s.joins.2 z);
-        };
+      shows = rw s.fifo shows;
+      next = same_next ∙ sym (end_push 0 T t);
+      kit = rw (s.kit ∙ y) k.kit;
+      indexed = indices_push T t (fates_of h) (index_of t) f k.indexed refl;
+      order = rw (end_push 0 T t) (s.order (rw b k.order));
+      count = omega (arith, length-append (fates_of h) ((index_of t, f) ∷ []), length-append T (t ∷ []), k.count);
+      table = recorded T t (index_of t) f k.count moved (s.fates (rw b k.order));
+      places = record {
+        runs = settled_runs v w x f (wanted h) refl k only b r s same_next;
+        sessions = λ u l. omega (arith, k.places.sessions u l, s.session_places, ss);
+        faults = λ u. omega (arith, k.places.faults u, s.fault_places, g);
+        first = λ z. absurd (joined_some x.runs s.joins.0 s.joins.1 s.joins.2 z);
       };
     }
 
+pub primed_settles : {out : Origin} {o : FifoOptions} {T : List Given} {i : ℕ} {p : Packet} {h : History} (v w x : JobView) (f : Fate)
+    → PrimedFor out o T i p h v → action.Settle f ≡ action_of o h i (facts_of out p)
+    → Shows o (Fated i f ∷ h) None w.fifo → next_of w.fifo ≡ i + 1
+    → w.shelf ≡ v.shelf → w.kit ≡ v.kit → w.runs ≡ v.runs → w.sessions ≡ v.sessions → w.faults ≡ v.faults → w.run_places ≡ v.run_places
+    → w.session_places ≡ v.session_places → w.fault_places ≡ v.fault_places → Settles i f w x → Acts out o T i p h x
+primed_settles {out = out} {o = o} {T = T} {i = i} {p = p} {h = h} v w x f k e shows next a y b c d r ss g s =
+    let is = settle_bools p f (wanted h) (mode_of o h) (is_waiting o h (facts_of out p)) (needs_restart o h i (facts_of out p)) e in
+    let primed : Primed out o T (Sent i p) f h v = rw (← e) at k in
+    record {
+      new = Fated i f ∷ h;
+      acted = rw (← e) refl;
+      stands = settled_at_once v w x f primed is.0 is.1 shows next a y b c d r ss g s;
+    }
+
+-- a packet that is flushed
+flush_bools : (w : Bool) (m : Mode) (n : ℕ) → w ≡ true → (if w then fate.NoMemory else flushed_in m n) ≡ fate.NoMemory
+flush_bools true m n e = refl
+flush_bools false m n e = absurd (cc e)
+
+pub sweep_place : {out : Origin} {o : FifoOptions} {T : List Given} {i n : ℕ} {h : History} (v : JobView)
+    → Primed out o T (Swept i n) (flush_of o h n) h v → (1 ≤ v.run_places) ⊎ Joins v.runs i (flush_of o h n)
+sweep_place {o = o} {i = i} {n = n} {h = h} v k = place_by i v (flush_of o h n) k.places k.later (flush_bools (wanted h) (mode_of o h) n)
+
+pub primed_sweeps : {out : Origin} {o : FifoOptions} {T : List Given} {i n : ℕ} {h : History} (v w x : JobView) (f : Fate)
+    → Primed out o T (Swept i n) (flush_of o h n) h v → f ≡ flush_of o h n
+    → Shows o (Fated i f ∷ h) None w.fifo → next_of w.fifo ≡ i + 1
+    → w.shelf ≡ v.shelf → w.kit ≡ v.kit → w.runs ≡ v.runs → w.sessions ≡ v.sessions → w.faults ≡ v.faults → w.run_places ≡ v.run_places
+    → w.session_places ≡ v.session_places → w.fault_places ≡ v.fault_places → Settles i f w x → Sweeps out o T i n h x
+primed_sweeps {out = out} {o = o} {T = T} {i = i} {n = n} {h = h} v w x f k e shows next a y b c d r ss g s =
+    let primed : Primed out o T (Swept i n) f h v = rw (← e) at k in
+    let only : wanted h ≡ true → f ≡ fate.NoMemory = λ (u : wanted h ≡ true). e ∙ flush_bools (wanted h) (mode_of o h) n u in
+    record { stands = rw (← e) (settled_at_once v w x f primed refl only shows next a y b c d r ss g s) }
+
 -- how the turn ended
-pub ends_concludes : {out : Origin} {o : FifoOptions} {L : List Packet} {p : Packet} {h : History} {a : Answer} {v : JobView} → Ends out o L p h a v → Concludes out o L p h a v
-ends_concludes {out = out} {o = o} {L = L} {p = p} {h = h} {a = a} k = record {
-  new = Fated (length L) k.fate_is ∷ Tried (trying o k.told) (length L) (facts_of out p) a ∷ k.told;
+pub ends_concludes : {out : Origin} {o : FifoOptions} {T : List Given} {i : ℕ} {p : Packet} {h : History} {a : Answer} {v : JobView} → Ends out o T i p h a v → Concludes out o T i p h a v
+ends_concludes {out = out} {o = o} {T = T} {i = i} {p = p} {h = h} {a = a} k = record {
+  new = Fated i k.fate_is ∷ Tried (trying o k.told) i (facts_of out p) a ∷ k.told;
   finished = (k.told, k.may, rw k.result refl);
   stands = k.stands;
 }
 
 -- after a second try
-pub second_concludes : {out : Origin} {o : FifoOptions} {L : List Packet} {p : Packet} {h : History} {a b : Answer} {v : JobView}
-    → a ≡ answer.Fault → (g : History) → MayWant h g → after_of o g (length L) (facts_of out p) a ≡ after.Again → g ≡ h
-    → Ends out o L p (Tried (trying o h) (length L) (facts_of out p) answer.Fault ∷ h) b v → Concludes out o L p h a v
-second_concludes {out = out} {o = o} {L = L} {p = p} {h = h} {a = a} {b = b} is g may again same k = record {
-  new = Fated (length L) k.fate_is ∷ Tried (trying o k.told) (length L) (facts_of out p) b ∷ k.told;
+pub second_concludes : {out : Origin} {o : FifoOptions} {T : List Given} {i : ℕ} {p : Packet} {h : History} {a b : Answer} {v : JobView}
+    → a ≡ answer.Fault → (g : History) → MayWant h g → after_of o g i (facts_of out p) a ≡ after.Again → g ≡ h
+    → Ends out o T i p (Tried (trying o h) i (facts_of out p) answer.Fault ∷ h) b v → Concludes out o T i p h a v
+second_concludes {out = out} {o = o} {T = T} {i = i} {p = p} {h = h} {a = a} {b = b} is g may again same k = record {
+  new = Fated i k.fate_is ∷ Tried (trying o k.told) i (facts_of out p) b ∷ k.told;
   finished = (g, may, rw again (rw (same, is) (b, k.told, k.may, rw k.result refl)));
   stands = k.stands;
 }
 
-pub concludes_acts : {out : Origin} {o : FifoOptions} {L : List Packet} {p : Packet} {h : History} {a : Answer} {v : JobView} (r : Action)
-    → (r ≡ action.Write) ⊎ (r ≡ action.OpenAndWrite) → r ≡ action_of o h (length L) (facts_of out p) → Concludes out o L p h a v → Acts out o L p h v
+pub concludes_acts : {out : Origin} {o : FifoOptions} {T : List Given} {i : ℕ} {p : Packet} {h : History} {a : Answer} {v : JobView} (r : Action)
+    → (r ≡ action.Write) ⊎ (r ≡ action.OpenAndWrite) → r ≡ action_of o h i (facts_of out p) → Concludes out o T i p h a v → Acts out o T i p h v
 concludes_acts {a = a} r (inl w) e k = record { new = k.new; acted = rw (← e, w) (a, k.finished.0, k.finished.1, k.finished.2); stands = k.stands }
 concludes_acts {a = a} r (inr w) e k = record { new = k.new; acted = rw (← e, w) (a, k.finished.0, k.finished.1, k.finished.2); stands = k.stands }
 
 -- whole runs
-turns_push : (out : Origin) (n : ℕ) (L : List Packet) (p : Packet) → turns_from out n (L ++ p ∷ []) ≡ turns_from out n L ++ Comes (n + length L) (facts_of out p) ∷ []
-turns_push out n [] p = rw add-zero refl
-turns_push out n (q ∷ L) p =
-    let e : (n + 1) + length L ≡ n + suc (length L) = omega arith in
-    ap (λ (ts : List Turn). Comes n (facts_of out q) ∷ ts) (rw (← e) (turns_push out (n + 1) L p))
-
 runs_push : (o : FifoOptions) (h : History) (ts : List Turn) (t : Turn) (mid new : History) → Runs o h ts mid → Made o mid t new → Runs o h (ts ++ t ∷ []) new
 runs_push o h [] t mid new r m = (new, rw (← r) m, refl)
 runs_push o h (u ∷ ts) t mid new r m = (r.0, r.1, runs_push o r.0 ts t mid new r.2 m)
 
-pub grows : {out : Origin} {o : FifoOptions} {L : List Packet} {p : Packet} {v w : JobView} (k : Keeps out o L v) (g : History)
-    → MayWant k.history g → Acts out o L p g w → Grows out o (L ++ p ∷ []) k.history w
-grows {out = out} {o = o} {L = L} {p = p} k g may a =
-    let adds = turn_adds o k.history g (length L) (facts_of out p) a.new may a.acted in
+follows_on : {out : Origin} {o : FifoOptions} {T : List Given} {v : JobView} (k : KeepsAll out o T v) (t : Given) (g new : History)
+    → MayWant k.history g → Turned o g (turn_of out t) new → Follows o (map (turn_of out) (T ++ t ∷ [])) new
+follows_on {out = out} {o = o} {T = T} k t g new may turned = (
+  k.follows.0,
+  k.follows.1,
+  k.follows.2,
+  rw (map_push (turn_of out) T t) (runs_push o k.follows.1 (map (turn_of out) T) (turn_of out t) k.history new k.follows.3 (g, may, turned)),
+)
+
+pub grows : {out : Origin} {o : FifoOptions} {T : List Given} {i : ℕ} {p : Packet} {v w : JobView} (k : KeepsAll out o T v) (g : History)
+    → MayWant k.history g → Acts out o T i p g w → GrowsAll out o (T ++ Sent i p ∷ []) k.history w
+grows {out = out} {o = o} {T = T} {i = i} {p = p} k g may a =
+    let adds = turn_adds o k.history g i (facts_of out p) a.new may a.acted in
     record {
-      keeps = record {
-        history = a.new;
-        follows = (
-          k.follows.0,
-          k.follows.1,
-          k.follows.2,
-          rw (turns_push out 0 L p) (runs_push o k.follows.1 (turns_from out 0 L) (Comes (0 + length L) (facts_of out p)) k.history a.new k.follows.3 (rw (zero-add (length L)) (g, may, a.acted))),
-        );
-        stands = a.stands;
-      };
+      keeps = record { history = a.new; follows = follows_on k (Sent i p) g a.new may a.acted; stands = a.stands };
       later = adds.0;
       goes_on = adds.1;
-      stays_dead = turn_dead o k.history g (length L) (facts_of out p) a.new may a.acted;
+      stays_dead = turn_dead o k.history g i (facts_of out p) a.new may a.acted;
     }
 
--- room was made, or refused
-pub roomy : {out : Origin} {o : FifoOptions} {L : List Packet} {h : History} (i : ℕ) (f : Fate) (b : Bool) (v w : JobView)
-    → Stands out o L h v → MakesRoom i f v b w → Stands out o L h w
-roomy i f b v w k m = record {
+pub sweeps_on : {out : Origin} {o : FifoOptions} {T : List Given} {i n : ℕ} {v w : JobView} (k : KeepsAll out o T v) (g : History)
+    → MayWant k.history g → Sweeps out o T i n g w → GrowsAll out o (T ++ Swept i n ∷ []) k.history w
+sweeps_on {out = out} {o = o} {T = T} {i = i} {n = n} k g may a =
+    let adds = fated_adds k.history g i (flush_of o g n) may in
+    record {
+      keeps = record { history = Fated i (flush_of o g n) ∷ g; follows = follows_on k (Swept i n) g (Fated i (flush_of o g n) ∷ g) may refl; stands = a.stands };
+      later = adds.0;
+      goes_on = adds.1;
+      stays_dead = fated_dead o k.history g i (flush_of o g n) may;
+    }
+
+-- room was made for what comes next, or refused
+pub roomy : {out : Origin} {o : FifoOptions} {T : List Given} {h : History} (t : Given) (f : Fate) (b : Bool) (v w : JobView)
+    → Stands out o T h v → end_from 0 T ≤ index_of t → MakesRoom (index_of t) f v b w → b ≡ true → Primed out o T t f h w
+roomy {T = T} t f b v w k later m granted = record {
   shows = rw m.fifo k.shows;
-  next = ap next_of m.fifo ∙ k.next;
+  later = omega (arith, later, ap next_of m.fifo ∙ k.next);
   kit = rw m.kit k.kit;
   count = k.count;
   indexed = k.indexed;
-  order = rw m.runs k.order;
-  table = rw (m.shelf, m.kit, m.runs, m.sessions, m.faults) k.table;
+  order = rw m.runs (order_later (end_from 0 T) (index_of t) v.runs k.order later);
+  table = widened t k.count (rw (m.shelf, m.kit, m.runs, m.sessions, m.faults) k.table);
   places = record {
     runs = elim k.places.runs [ inl le ↦ inl (omega (arith, le, m.run_places)) | inr x ↦ inr (x.0, rw (m.runs, m.fifo) x.1) ];
     sessions = λ u l. omega (arith, k.places.sessions u l, m.session_places);
     faults = λ u. omega (arith, k.places.faults u, m.fault_places);
     first = λ z. (let before = k.places.first (sym m.runs ∙ z) in omega (arith, before, m.run_places));
   };
+  room = λ u. m.room granted;
 }
 
+-- the job with the machine in another state
+abbrev pub with_fifo : JobView → FifoState → JobView
+with_fifo v x = record v { fifo = x }
+
 -- memory was wanted for the run
-pub wanting : {out : Origin} {o : FifoOptions} {L : List Packet} {h : History} (v w : JobView) → Stands out o L h v
-    → Shows o (Want ∷ h) None w.fifo → next_of w.fifo ≡ next_of v.fifo
-    → w.shelf ≡ v.shelf → w.kit ≡ v.kit → w.runs ≡ v.runs → w.sessions ≡ v.sessions → w.faults ≡ v.faults → w.run_places ≡ v.run_places
-    → (v.faults ≡ [] → Rose out.shelf.wants v.shelf.wants) → Stands out o L (Want ∷ h) w
-wanting v w k shows next a y b c d r excused = record {
+pub wanting : {out : Origin} {o : FifoOptions} {T : List Given} {h : History} (t : Given) (f e : Fate) (b : Bool) (v w : JobView) (x : FifoState)
+    → Stands out o T h v → end_from 0 T ≤ index_of t → MakesRoom (index_of t) f v b w → Shows o (Want ∷ h) None x → next_of x ≡ next_of w.fifo
+    → (IsGapless (T ++ t ∷ []) → v.faults ≡ [] → Rose out.shelf.wants v.shelf.wants) → Primed out o T t e (Want ∷ h) (with_fifo w x)
+wanting {T = T} t f e b v w x k later m shows next excused = record {
   shows = shows;
-  next = next ∙ k.next;
-  kit = rw y k.kit;
+  later = omega (arith, later, next ∙ ap next_of m.fifo ∙ k.next);
+  kit = rw m.kit k.kit;
   count = k.count;
   indexed = k.indexed;
-  order = rw b k.order;
-  table = rw (a, y, b, c, d) (want_now k.table excused);
+  order = rw m.runs (order_later (end_from 0 T) (index_of t) v.runs k.order later);
+  table = want_now (widened t k.count (rw (m.shelf, m.kit, m.runs, m.sessions, m.faults) k.table)) (λ q none. rw m.shelf (excused q (sym m.faults ∙ none)));
   places = record {
-    runs = elim k.places.runs [ inl le ↦ inl (omega (arith, le, r)) | inr x ↦ inr (refl, rw (b, next) x.1) ];
+    runs = elim k.places.runs [ inl le ↦ inl (omega (arith, le, m.run_places)) | inr y ↦ inr (refl, rw (m.runs, next ∙ ap next_of m.fifo) y.1) ];
     sessions = λ u l. absurd (cc u);
     faults = λ u. absurd (cc u);
-    first = λ z. (let before = k.places.first (sym b ∙ z) in omega (arith, before, r));
+    first = λ z. (let before = k.places.first (sym m.runs ∙ z) in omega (arith, before, m.run_places));
   };
+  room = λ u. absurd (cc u);
 }
 
 again_closed : (w live recovers now needs : Bool) (m : ℕ)
@@ -546,38 +589,17 @@ again_closed false true recovers now needs m e c = cc c
 again_closed false false recovers now needs m e c = cc e
 
 -- an output that isn't live tries a packet once
-pub no_again : {out : Origin} {o : FifoOptions} {L : List Packet} {p : Packet} {h : History} {a : Answer} (v w : JobView) (r : After)
-    → Holds out o L p h a v → Tells o h (length L) (facts_of out p) a v r w → mode_is_live (mode_of o h) ≡ false → r ≡ after.Again → ⊥
-no_again {out = out} {o = o} {L = L} {p = p} {h = h} {a = a} v w r d k shut e =
-    let known = again_fault o k.told (length L) (facts_of out p) a (sym k.result ∙ e) in
+pub no_again : {out : Origin} {o : FifoOptions} {T : List Given} {i : ℕ} {p : Packet} {h : History} {a : Answer} (v w : JobView) (r : After)
+    → Holds out o T i p h a v → Tells o h i (facts_of out p) a v r w → mode_is_live (mode_of o h) ≡ false → r ≡ after.Again → ⊥
+no_again {out = out} {o = o} {T = T} {i = i} {p = p} {h = h} {a = a} v w r d k shut e =
+    let known = again_fault o k.told i (facts_of out p) a (sym k.result ∙ e) in
     let same = free_told h k.told k.may known.1 in
     let is = is_fault_only a known.0 in
-    let at_fault : after_of o h (length L) (facts_of out p) answer.Fault ≡ after.Again = rw (same, is) at (sym k.result ∙ e) in
+    let at_fault : after_of o h i (facts_of out p) answer.Fault ≡ after.Again = rw (same, is) at (sym k.result ∙ e) in
     again_closed (wanted h) (mode_is_live (mode_of o h)) o.attempt_recovery (o.wait_ms == 0)
-    (needs_restart o (Tried (trying o h) (length L) (facts_of out p) answer.Fault ∷ h) (length L) (facts_of out p)) (notes h) at_fault shut
+    (needs_restart o (Tried (trying o h) i (facts_of out p) answer.Fault ∷ h) i (facts_of out p)) (notes h) at_fault shut
 
-pub again_told : {out : Origin} {o : FifoOptions} {L : List Packet} {p : Packet} {h : History} {a : Answer} (v w : JobView) (r : After)
-    → Holds out o L p h a v → (k : Tells o h (length L) (facts_of out p) a v r w) → r ≡ after.Again → k.told ≡ h
-again_told {out = out} {o = o} {L = L} {p = p} {h = h} {a = a} v w r d k e =
-    free_told h k.told k.may (again_fault o k.told (length L) (facts_of out p) a (sym k.result ∙ e)).1
-
--- the job with the machine in another state
-abbrev pub with_fifo : JobView → FifoState → JobView
-with_fifo v x = record v { fifo = x }
-
-pub roomy_primed : {out : Origin} {o : FifoOptions} {L : List Packet} {p : Packet} {h : History} (i : ℕ) (facts : PacketFacts) (f : Fate) (b : Bool) (v w : JobView)
-    → Stands out o L h v → MakesRoom i f v b w → b ≡ true → length L ≡ i → facts ≡ facts_of out p
-    → f ≡ expected_in o h (action_of o h i facts) → Primed out o L p h w
-roomy_primed {out = out} {o = o} {L = L} {p = p} {h = h} i facts f b v w k m granted e same expected = record {
-  stands = roomy i f b v w k m;
-  room = λ u. subst (λ (y : Fate). Joins w.runs (length L) y ⊎ (2 ≤ w.run_places)) (rw (same, ← e) at expected) (rw e (m.room granted));
-}
-
--- room was refused
-pub refused_primed : {out : Origin} {o : FifoOptions} {L : List Packet} {p : Packet} {h : History} (i : ℕ) (f : Fate) (b : Bool) (v w : JobView) (x : FifoState)
-    → Stands out o L h v → MakesRoom i f v b w → Shows o (Want ∷ h) None x → next_of x ≡ next_of w.fifo → (v.faults ≡ [] → Rose out.shelf.wants v.shelf.wants)
-    → Primed out o L p (Want ∷ h) (with_fifo w x)
-refused_primed {out = out} {o = o} {L = L} {h = h} i f b v w x k m shows next excused = record {
-  stands = wanting w (with_fifo w x) (roomy i f b v w k m) shows next refl refl refl refl refl refl (λ e. rw m.shelf (excused (sym m.faults ∙ e)));
-  room = λ u. absurd (cc u);
-}
+pub again_told : {out : Origin} {o : FifoOptions} {T : List Given} {i : ℕ} {p : Packet} {h : History} {a : Answer} (v w : JobView) (r : After)
+    → Holds out o T i p h a v → (k : Tells o h i (facts_of out p) a v r w) → r ≡ after.Again → k.told ≡ h
+again_told {out = out} {o = o} {T = T} {i = i} {p = p} {h = h} {a = a} v w r d k e =
+    free_told h k.told k.may (again_fault o k.told i (facts_of out p) a (sym k.result ∙ e)).1

@@ -18,7 +18,8 @@ use Rattle.slave.specs.declared.records.FaultAt.TheVariants.{End}
 use Rattle.slave.specs.declared.records.FaultNote.{FaultNote}
 use Rattle.slave.specs.declared.job.SlaveEnd.{SlaveEnd}
 use Rattle.slave.specs.Runs.{expand, AreInOrder}
-use Rattle.slave.specs.Table.{EndFailed, Closed, Row, AllRows, Chain, row_note, row_fault, row_packets, written_of, NotesTell, Numbered, Indexed, turns_from}
+use Rattle.slave.specs.Given.{Given, index_of, turn_of, end_from, Gives, IsGapless}
+use Rattle.slave.specs.Table.{StandsAt, indices, covered, written_among, EndFailed, Closed, Row, AllRows, Chain, row_note, row_fault, row_packets, written_of, NotesTell, Numbered, Indexed, turns_from}
 
 pub record EndView : Type 0 where
   pub shelf : ShelfState
@@ -81,7 +82,7 @@ pub record Ended (g : Origin) (o : FifoOptions) (L : List Packet) (e : EndView) 
   pub added : ℕ
   pub chain : Chain g.shelf rows (with_count e.shelf before added)
   pub bytes : e.bytes ≡ raised before added
-  pub each : AllRows g L rows
+  pub each : AllRows g (StandsAt L) rows
   pub packets : flat_map row_packets rows ≡ written_of L (fates_of history)
   pub notes : EndNotes history end_answer e.faults
   pub inline : e.inline ≡ false
@@ -108,3 +109,42 @@ GivenUpStaysSo = (g : Origin) (o : FifoOptions) (L : List Packet) (e : EndView) 
 abbrev pub SoundNeverFails : Type 0
 SoundNeverFails = (g : Origin) (o : FifoOptions) (L : List Packet) (e : EndView) (k : Ended g o L e)
     → g.shelf.sound ≡ true → (mode_is_dead (mode_of o k.history) ≡ false) × (e.state ≡ ends.Failed → ⊥)
+
+-- what an output tells at its end agrees with what it was given
+pub record EndedAll (g : Origin) (o : FifoOptions) (T : List Given) (e : EndView) : Type 0 where
+  pub history : History
+  pub follows : Follows o (map (turn_of g) T) history
+  pub count : length (fates_of history) ≡ length T
+  pub indexed : indices (fates_of history) ≡ map index_of T
+  pub order : AreInOrder (end_from 0 T) e.fates
+  pub end_answer : Option Answer
+  pub end_called : is_some end_answer ≡ is_live o history
+  pub state : e.state ≡ end_of history end_answer
+  pub fates : expand e.fates ≡ covered history
+  pub rows : List Row
+  pub front : List Row
+  pub last : Row
+  pub split : rows ≡ front ++ last ∷ []
+  pub numbered : Numbered 0 rows
+  pub number : last.note.number ≡ session_of history
+  pub ends_as : EndsAs end_answer last
+  pub are_sessions : e.sessions ≡ map row_note rows
+  pub are_faults : e.faults ≡ filter_map row_fault rows
+  -- the bytes that the shelf accepted, counted from 0
+  pub counts : g.shelf.accepted ≡ Some (record { before = 0; last = 0 })
+  pub before : ℕ
+  pub added : ℕ
+  pub chain : Chain g.shelf rows (with_count e.shelf before added)
+  pub bytes : e.bytes ≡ raised before added
+  pub each : AllRows g (Gives T) rows
+  pub packets : flat_map row_packets rows ≡ written_among T (fates_of history)
+  pub notes : EndNotes history end_answer e.faults
+  pub inline : e.inline ≡ false
+  -- a sound shelf had no fault, and none is noted
+  pub sound : g.shelf.sound ≡ true → e.shelf.faults ≡ g.shelf.faults
+  pub safe : g.shelf.sound ≡ true → e.faults ≡ []
+  pub wants : g.shelf.wants ≤ e.shelf.wants
+  pub excuse : IsGapless T → e.state ≡ ends.NoMemory → e.faults ≡ [] → Rose g.shelf.wants e.shelf.wants
+
+abbrev pub EndedAllBy : Origin → FifoOptions → List Given → History → EndView → Type 0
+EndedAllBy g o T h e = (k : EndedAll g o T e) × (k.history ≡ h)

@@ -19,7 +19,7 @@ use Rattle.slave.specs.declared.records.SessionNote.{SessionNote}
 use Rattle.slave.specs.declared.records.FaultAt.{FaultAt}
 use Rattle.slave.specs.declared.records.FaultNote.{FaultNote}
 use Rattle.slave.specs.declared.records.FaultAt.TheVariants.{Begin, End}
-use Rattle.slave.specs.Runs.{expand, Joins, AreInOrder}
+use Rattle.slave.specs.Runs.{expand, pushed, Joins, AreInOrder}
 use Rattle.slave.specs.declared.job.SlaveJob.{SlaveJob}
 use Rattle.slave.specs.Watched.{inner, is_flushed}
 
@@ -163,7 +163,7 @@ pub record Settles (i : ℕ) (f : Fate) (old new : JobView) : Type 0 where
   pub session_places : new.session_places ≡ old.session_places
   pub faults : new.faults ≡ old.faults
   pub fault_places : new.fault_places ≡ old.fault_places
-  pub fates : expand new.runs ≡ expand old.runs ++ (i, f) ∷ []
+  pub fates : AreInOrder i old.runs → expand new.runs ≡ pushed (expand old.runs) i f
   pub joins : Joins new.runs (i + 1) f
   pub order : AreInOrder i old.runs → AreInOrder (i + 1) new.runs
   pub run_places : old.run_places ≤ new.run_places + 1

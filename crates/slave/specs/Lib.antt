@@ -2,6 +2,7 @@ pub mod Accounts
 pub mod Calls
 pub mod End
 pub mod Fresh
+pub mod Given
 pub mod Headline
 pub mod Job
 pub mod Origin

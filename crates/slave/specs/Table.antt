@@ -7,7 +7,7 @@ use Rattle.fifo_core.specs.declared.types.PacketFacts.{PacketFacts}
 use Rattle.fifo_core.specs.declared.types.Answer.TheVariants as answer
 use Rattle.fifo_core.specs.declared.types.Mode.TheVariants.{Live}
 use Rattle.fifo_core.specs.declared.types.Answer.{Answer}
-use Rattle.fifo_core.specs.History.{Begun, Tried, Fated, Want, History, mode_of, mode_is_live, mode_is_dead, session_of, trying, fates_of, wanted, after_of, action_of}
+use Rattle.fifo_core.specs.History.{Begun, Tried, Fated, Want, History, mode_of, mode_is_live, mode_is_dead, session_of, trying, fates_of, wanted, after_of, action_of, flush_of}
 use Rattle.fifo_core.specs.Follows.{Turn, Comes, Follows, MayWant, Answered, Acted}
 use Rattle.fifo_core.specs.State.{Shows, next_of, after_answer, hand_after_answer}
 use Rattle.fifo_core.specs.declared.types.After.{After}
@@ -26,7 +26,8 @@ use Rattle.slave.specs.declared.records.FaultNote.{FaultNote}
 use Rattle.slave.specs.Origin.{Origin, facts_of}
 use Rattle.slave.specs.Calls.{begin_calls, put_calls, end_calls, puts}
 use Rattle.slave.specs.declared.records.Run.{Run}
-use Rattle.slave.specs.Runs.{expand, Joins, AreInOrder}
+use Rattle.slave.specs.Given.{Given, Sent, Swept, index_of, turn_of, end_from, Gives, sent_from, IsGapless}
+use Rattle.slave.specs.Runs.{expand, pushed, Joins, AreInOrder}
 use Rattle.slave.specs.Job.{JobView, KitOf, Writer, WriterAfter, SoundStays, is_done, is_fault}
 
 -- how a session stands
@@ -50,18 +51,22 @@ pub record Row : Type 0 where
 abbrev pub calls_of : Origin → Row → List ShelfCall
 calls_of g r = begin_calls g r.note.number ++ puts g r.written
 
--- what a session left; a note says that it was closed exactly where it was
-abbrev pub LeftBy : Origin → List Packet → Row → Outcome → Type 0
-LeftBy g L r Open = (r.note.begun ≡ true) × (r.note.closed ≡ false) × Completed (calls_of g r) r.before r.after
-LeftBy g L r NotBegun =
+-- the packet stands at this place of a list
+abbrev pub StandsAt : List Packet → ℕ → Packet → Type 0
+StandsAt L i p = slice_get L i ≡ Some p
+
+-- What a session left, where packets have indices by this relation. A note says that it was closed exactly where it was.
+abbrev pub LeftBy : Origin → (ℕ → Packet → Type 0) → Row → Outcome → Type 0
+LeftBy g At r Open = (r.note.begun ≡ true) × (r.note.closed ≡ false) × Completed (calls_of g r) r.before r.after
+LeftBy g At r NotBegun =
     (r.note.begun ≡ false) × (r.note.closed ≡ false) × (r.written ≡ []) × Stopped (begin_calls g r.note.number) 0 r.before r.after
-LeftBy g L r (PutFailed i p) =
-    (r.note.begun ≡ true) × (r.note.closed ≡ false) × (slice_get L i ≡ Some p)
+LeftBy g At r (PutFailed i p) =
+    (r.note.begun ≡ true) × (r.note.closed ≡ false) × At i p
     × Stopped (calls_of g r ++ put_calls g r.written p) (length (calls_of g r)) r.before r.after
-LeftBy g L r EndFailed =
+LeftBy g At r EndFailed =
     (r.note.begun ≡ true) × (r.note.closed ≡ false)
     × Stopped (calls_of g r ++ end_calls g r.written) (length (calls_of g r)) r.before r.after
-LeftBy g L r Closed =
+LeftBy g At r Closed =
     (r.note.begun ≡ true) × (r.note.closed ≡ true) × Completed (calls_of g r ++ end_calls g r.written) r.before r.after
 
 -- the call at which a session ended is that of its note
@@ -86,12 +91,12 @@ NoteFits r None = stopped r.outcome ≡ true → Rose r.before.wants r.after.wan
 NoteFits r (Some n) = (n.session ≡ r.note.number) × IsAt r.outcome n.at × (n.before ≤ n.after) × Rose n.before n.after
     × (r.before.faults ≤ n.before) × (n.after ≡ r.after.faults)
 
-abbrev pub RowHolds : Origin → List Packet → Row → Type 0
-RowHolds g L r = LeftBy g L r r.outcome × NoteFits r r.fault × (r.before.faults ≤ r.after.faults) × (r.before.wants ≤ r.after.wants)
+abbrev pub RowHolds : Origin → (ℕ → Packet → Type 0) → Row → Type 0
+RowHolds g At r = LeftBy g At r r.outcome × NoteFits r r.fault × (r.before.faults ≤ r.after.faults) × (r.before.wants ≤ r.after.wants)
 
-abbrev pub AllRows : Origin → List Packet → List Row → Type 0
-AllRows g L [] = Unit {0}
-AllRows g L (r ∷ rs) = RowHolds g L r × AllRows g L rs
+abbrev pub AllRows : Origin → (ℕ → Packet → Type 0) → List Row → Type 0
+AllRows g At [] = Unit {0}
+AllRows g At (r ∷ rs) = RowHolds g At r × AllRows g At rs
 
 -- each session begins where the one before it left the shelf
 abbrev pub Chain : ShelfState → List Row → ShelfState → Type 0
@@ -117,6 +122,24 @@ abbrev pub written_of : List Packet → List (ℕ × Fate) → List (ℕ × Pack
 written_of [] fs = []
 written_of (p ∷ ps) [] = []
 written_of (p ∷ ps) (f ∷ fs) = if_written p f.1 ++ written_of ps fs
+
+abbrev pub if_given : Given → Fate → List (ℕ × Packet)
+if_given (Sent i p) f = if_written p f
+if_given (Swept i n) f = []
+
+-- the same among all that was given
+abbrev pub written_among : List Given → List (ℕ × Fate) → List (ℕ × Packet)
+written_among [] fs = []
+written_among (t ∷ ts) [] = []
+written_among (t ∷ ts) (f ∷ fs) = if_given t f.1 ++ written_among ts fs
+
+-- The fates of a history, the oldest first, with those of the refused packets that lie between two without memory.
+abbrev pub covered : History → List (ℕ × Fate)
+covered [] = []
+covered (Begun a ∷ h) = covered h
+covered (Tried s i facts a ∷ h) = covered h
+covered (Fated i f ∷ h) = pushed (covered h) i f
+covered (Want ∷ h) = covered h
 
 -- the notes are those of the history's faults
 abbrev pub NotesTell : History → List FaultNote → Type 0
@@ -146,8 +169,8 @@ pub record LastRow (g : Origin) (o : FifoOptions) (h : History) (writer : Writer
   pub number : last.note.number ≡ session_of h
   pub is_open : wanted h ≡ false → mode_of o h ≡ Live → (last.outcome ≡ Open) × WriterAfter g last.written writer
 
--- What is recorded agrees with this history of these packets. The packets ahead were written, and their fates are not yet recorded.
-pub record Table (g : Origin) (o : FifoOptions) (L : List Packet) (h : History) (ahead : List (ℕ × Packet))
+-- What is recorded agrees with this history of what was given. The packets ahead were written, and their fates are not yet recorded.
+pub record Table (g : Origin) (o : FifoOptions) (T : List Given) (h : History) (ahead : List (ℕ × Packet))
     (shelf : ShelfState) (writer : Writer) (runs : List Run) (sessions : List SessionNote) (faults : List FaultNote) : Type 0 where
   pub rows : List Row
   pub last : LastRow g o h writer rows
@@ -155,16 +178,16 @@ pub record Table (g : Origin) (o : FifoOptions) (L : List Packet) (h : History) 
   pub are_sessions : sessions ≡ map row_note rows
   pub are_faults : faults ≡ filter_map row_fault rows
   pub chain : Chain g.shelf rows shelf
-  pub each : AllRows g L rows
-  pub packets : flat_map row_packets rows ≡ written_of L (fates_of h) ++ ahead
-  pub fates : expand runs ≡ fates_of h
+  pub each : AllRows g (Gives T) rows
+  pub packets : flat_map row_packets rows ≡ written_among T (fates_of h) ++ ahead
+  pub fates : expand runs ≡ covered h
   pub notes : NotesTell h faults
   pub writing : wanted h ≡ false → shelf.writing ≡ mode_is_live (mode_of o h)
   pub sound : SoundStays g.shelf shelf
   pub safe : g.shelf.sound ≡ true → faults ≡ []
-  -- the count of wants rose where memory was wanted and no fault was noted
+  -- where nothing was refused or flushed, the count of wants rose where memory was wanted and no fault was noted
   pub wants : g.shelf.wants ≤ shelf.wants
-  pub excuse : wanted h ≡ true → faults ≡ [] → Rose g.shelf.wants shelf.wants
+  pub excuse : IsGapless T → wanted h ≡ true → faults ≡ [] → Rose g.shelf.wants shelf.wants
 
 -- the packets come one after another, from the n-th on
 abbrev pub turns_from : Origin → ℕ → List Packet → List Turn
@@ -184,22 +207,39 @@ pub record HasPlaces (o : FifoOptions) (h : History) (v : JobView) : Type 0 wher
   -- the first run takes places that are there from the start
   pub first : v.runs ≡ [] → 2 ≤ v.run_places
 
--- the job stands where this history of these packets left it
-pub record Stands (g : Origin) (o : FifoOptions) (L : List Packet) (h : History) (v : JobView) : Type 0 where
+-- the indices of these fates
+abbrev pub indices : List (ℕ × Fate) → List ℕ
+indices fs = map (λ x. x.0) fs
+
+-- the job stands where this history of what was given left it
+pub record Stands (g : Origin) (o : FifoOptions) (T : List Given) (h : History) (v : JobView) : Type 0 where
   pub shows : Shows o h None v.fifo
-  pub next : next_of v.fifo ≡ length L
+  pub next : next_of v.fifo ≡ end_from 0 T
   pub kit : KitOf g v.kit
-  pub count : length (fates_of h) ≡ length L
-  pub indexed : Indexed 0 (fates_of h)
-  pub order : AreInOrder (length L) v.runs
-  pub table : Table g o L h [] v.shelf v.kit.writer v.runs v.sessions v.faults
+  pub count : length (fates_of h) ≡ length T
+  pub indexed : indices (fates_of h) ≡ map index_of T
+  pub order : AreInOrder (end_from 0 T) v.runs
+  pub table : Table g o T h [] v.shelf v.kit.writer v.runs v.sessions v.faults
   pub places : HasPlaces o h v
+
+-- the job stands where all this, from the first on, left it
+pub record KeepsAll (g : Origin) (o : FifoOptions) (T : List Given) (v : JobView) : Type 0 where
+  pub history : History
+  pub follows : Follows o (map (turn_of g) T) history
+  pub stands : Stands g o T history v
+
+-- and its history goes on from the one before; an output that was given up stays so
+pub record GrowsAll (g : Origin) (o : FifoOptions) (T : List Given) (before : History) (v : JobView) : Type 0 where
+  pub keeps : KeepsAll g o T v
+  pub later : History
+  pub goes_on : keeps.history ≡ later ++ before
+  pub stays_dead : mode_is_dead (mode_of o before) ≡ true → mode_is_dead (mode_of o keeps.history) ≡ true
 
 -- the job stands where these packets, all from the first on, left it
 pub record Keeps (g : Origin) (o : FifoOptions) (L : List Packet) (v : JobView) : Type 0 where
   pub history : History
   pub follows : Follows o (turns_from g 0 L) history
-  pub stands : Stands g o L history v
+  pub stands : Stands g o (sent_from 0 L) history v
 
 -- The job stands where these packets left it, and its history goes on from the one before. An output that was given up
 -- stays so.
@@ -215,18 +255,18 @@ ahead_of s p answer.Fault = []
 ahead_of s p answer.NoMemory = []
 
 -- the packet in hand, which is the last, was tried with this answer, which the machine wasn't told yet
-pub record Holds (g : Origin) (o : FifoOptions) (L : List Packet) (p : Packet) (h : History) (a : Answer) (v : JobView) : Type 0 where
-  pub shows : Shows o h (Some (length L, facts_of g p)) v.fifo
-  pub next : next_of v.fifo ≡ length L + 1
+pub record Holds (g : Origin) (o : FifoOptions) (T : List Given) (i : ℕ) (p : Packet) (h : History) (a : Answer) (v : JobView) : Type 0 where
+  pub shows : Shows o h (Some (i, facts_of g p)) v.fifo
+  pub next : next_of v.fifo ≡ i + 1
   pub kit : KitOf g v.kit
-  pub count : length (fates_of h) ≡ length L
-  pub indexed : Indexed 0 (fates_of h)
-  pub order : AreInOrder (length L) v.runs
+  pub count : length (fates_of h) ≡ length T
+  pub indexed : indices (fates_of h) ≡ map index_of T
+  pub order : AreInOrder i v.runs
   pub unwanted : wanted h ≡ false
-  pub table : Table g o (L ++ p ∷ []) (Tried (trying o h) (length L) (facts_of g p) a ∷ h) (ahead_of (trying o h) p a)
+  pub table : Table g o (T ++ Sent i p ∷ []) (Tried (trying o h) i (facts_of g p) a ∷ h) (ahead_of (trying o h) p a)
       v.shelf v.kit.writer v.runs v.sessions v.faults
   -- there is a place for the run of a written packet, and one more for want of memory
-  pub room : Joins v.runs (length L) (fate.Written (trying o h)) ⊎ (2 ≤ v.run_places)
+  pub room : Joins v.runs i (fate.Written (trying o h)) ⊎ (2 ≤ v.run_places)
   pub last_place : 1 ≤ v.run_places
   pub places : is_done a ≡ true → 1 ≤ v.fault_places
 
@@ -259,29 +299,42 @@ expected_in o h action.Write = fate.Written (trying o h)
 expected_in o h action.OpenAndWrite = fate.Written (trying o h)
 
 -- the turn of the packet in hand is over
-pub record Ends (g : Origin) (o : FifoOptions) (L : List Packet) (p : Packet) (h : History) (a : Answer) (v : JobView) : Type 0 where
+pub record Ends (g : Origin) (o : FifoOptions) (T : List Given) (i : ℕ) (p : Packet) (h : History) (a : Answer) (v : JobView) : Type 0 where
   pub fate_is : Fate
   pub told : History
   pub may : MayWant h told
-  pub result : after_of o told (length L) (facts_of g p) a ≡ after.Settle fate_is
-  pub stands : Stands g o (L ++ p ∷ []) (Fated (length L) fate_is ∷ Tried (trying o told) (length L) (facts_of g p) a ∷ told) v
+  pub result : after_of o told i (facts_of g p) a ≡ after.Settle fate_is
+  pub stands : Stands g o (T ++ Sent i p ∷ []) (Fated i fate_is ∷ Tried (trying o told) i (facts_of g p) a ∷ told) v
 
-pub record Concludes (g : Origin) (o : FifoOptions) (L : List Packet) (p : Packet) (h : History) (a : Answer) (v : JobView) : Type 0 where
+pub record Concludes (g : Origin) (o : FifoOptions) (T : List Given) (i : ℕ) (p : Packet) (h : History) (a : Answer) (v : JobView) : Type 0 where
   pub new : History
-  pub finished : Finished o h (length L) (facts_of g p) a new
-  pub stands : Stands g o (L ++ p ∷ []) new v
+  pub finished : Finished o h i (facts_of g p) a new
+  pub stands : Stands g o (T ++ Sent i p ∷ []) new v
 
 -- the packet fits its output
 abbrev pub Takes : Origin → Packet → Type 0
 Takes g p = Fits g.format g.streams p
 
--- the job stands there, with room for the run that this packet may need
-pub record Primed (g : Origin) (o : FifoOptions) (L : List Packet) (p : Packet) (h : History) (v : JobView) : Type 0 where
-  pub stands : Stands g o L h v
-  pub room : wanted h ≡ false
-      → Joins v.runs (length L) (expected_in o h (action_of o h (length L) (facts_of g p))) ⊎ (2 ≤ v.run_places)
+-- The job stands there and is given this with what came before it, and there is room for the run that this fate may need.
+pub record Primed (g : Origin) (o : FifoOptions) (T : List Given) (t : Given) (f : Fate) (h : History) (v : JobView) : Type 0 where
+  pub shows : Shows o h None v.fifo
+  pub later : next_of v.fifo ≤ index_of t
+  pub kit : KitOf g v.kit
+  pub count : length (fates_of h) ≡ length T
+  pub indexed : indices (fates_of h) ≡ map index_of T
+  pub order : AreInOrder (index_of t) v.runs
+  pub table : Table g o (T ++ t ∷ []) h [] v.shelf v.kit.writer v.runs v.sessions v.faults
+  pub places : HasPlaces o h v
+  pub room : wanted h ≡ false → Joins v.runs (index_of t) f ⊎ (2 ≤ v.run_places)
 
-pub record Acts (g : Origin) (o : FifoOptions) (L : List Packet) (p : Packet) (h : History) (v : JobView) : Type 0 where
+abbrev pub PrimedFor : Origin → FifoOptions → List Given → ℕ → Packet → History → JobView → Type 0
+PrimedFor g o T i p h v = Primed g o T (Sent i p) (expected_in o h (action_of o h i (facts_of g p))) h v
+
+pub record Acts (g : Origin) (o : FifoOptions) (T : List Given) (i : ℕ) (p : Packet) (h : History) (v : JobView) : Type 0 where
   pub new : History
-  pub acted : Acted o h (length L) (facts_of g p) (action_of o h (length L) (facts_of g p)) new
-  pub stands : Stands g o (L ++ p ∷ []) new v
+  pub acted : Acted o h i (facts_of g p) (action_of o h i (facts_of g p)) new
+  pub stands : Stands g o (T ++ Sent i p ∷ []) new v
+
+-- a packet was flushed
+pub record Sweeps (g : Origin) (o : FifoOptions) (T : List Given) (i n : ℕ) (h : History) (v : JobView) : Type 0 where
+  pub stands : Stands g o (T ++ Swept i n ∷ []) (Fated i (flush_of o h n) ∷ h) v

@@ -1,7 +1,7 @@
 // One output. Every place for a record is reserved before the calls of the turn that may need it.
 ghost use Rattle.std.specs.Prelude.{◌≡◌, ◌+◌, ◌-◌, ◌≤◌, ◌<◌, ◌∷◌, ◌++◌, ◌⊎◌, [], true, false, ◌^◌, ℕ, Some, None, IsSome, List, length, IfOk, IfErr, string_bytes};
 ghost use Rattle.fifo_core.specs.State.{session_in, Shows, hand_of, next_of};
-ghost use Rattle.fifo_core.specs.History.{History, action_of, mode_of, mode_is_live, mode_is_dead};
+ghost use Rattle.fifo_core.specs.History.{History, action_of, flush_of, mode_of, mode_is_live, mode_is_dead};
 ghost use Rattle.fifo_core.specs.declared.types.FifoOptions.{FifoOptions};
 ghost use Rattle.fifo_core.specs.declared.types.PacketFacts.{PacketFacts};
 ghost use Rattle.rmx_edge.specs.Counted.{with_count, inner, bytes_of};
@@ -11,6 +11,7 @@ ghost use Rattle.rmx_media.specs.declared.packet.Packet.{Packet};
 ghost use Rattle.rmx_media.specs.declared.streams.MuxStreams.{MuxStreams};
 ghost use Rattle.slave.specs.Calls.{IsBuilt};
 ghost use Rattle.slave.specs.Origin.{Origin, facts_of, session_name as session_in_name};
+ghost use Rattle.slave.specs.Given.{Given, Sent, Swept, end_from};
 ghost use Rattle.slave.specs.Runs.{Joins};
 ghost use Rattle.slave.specs.Job.{ClosesLast, WriterAfter, is_done as is_answer_done};
 ghost use Rattle.slave.specs.Watched.{inner as watched};
@@ -61,10 +62,10 @@ pub struct SlaveEnd<S> {
 
 impl<S: Shelf> SlaveJob<S> {
     ghost use Rattle.slave.specs.Job.{view_of, KitOf, Puts, Begins, Opens, Asks, Settles, OpensAndPuts, MakesRoom, Closes};
-    ghost use Rattle.slave.specs.Table.{Tells, expected_in, Keeps, Grows, Holds, Ends, Concludes, Primed, Acts, Takes};
+    ghost use Rattle.slave.specs.Table.{Tells, expected_in, Keeps, Grows, KeepsAll, GrowsAll, Holds, Ends, Concludes, Primed, PrimedFor, Acts, Sweeps, Takes};
     ghost use Rattle.slave.specs.Fresh.{IsFresh};
     ghost use Rattle.slave.specs.Prepared.{IsPrepared};
-    ghost use Rattle.slave.specs.End.{EndedBy, IsUnclosed, end_view};
+    ghost use Rattle.slave.specs.End.{EndedBy, EndedAllBy, IsUnclosed, end_view};
 
     /// It reserves places for two runs, of which one is for want of memory alone, a session and a fault. A refusal hands the
     /// shelf back.
@@ -137,6 +138,14 @@ impl<S: Shelf> SlaveJob<S> {
     /// Whether the output was given up.
     pub fn is_dead(&self) -> bool
         ensures { (g : Origin) (o : FifoOptions) (L : List Packet) (k : Keeps g o L (view_of S.state self.now))
+            → result ≡ mode_is_dead (mode_of o k.history) }
+    {
+        self.is_given_up()
+    }
+
+    /// The same for packets with gaps.
+    pub fn is_given_up(&self) -> bool
+        ensures { (g : Origin) (o : FifoOptions) (T : List Given) (k : KeepsAll g o T (view_of S.state self.now))
             → result ≡ mode_is_dead (mode_of o k.history) }
     {
         self.fifo.is_dead()
@@ -313,11 +322,11 @@ impl<S: Shelf> SlaveJob<S> {
 
     // Ends the turn of the packet in hand, where it isn't tried again.
     fn finish(&mut self, index: u64, p: &Packet, answer: Answer)
-        requires ready { (g : Origin) × (o : FifoOptions) × (L : List Packet) × (h : History)
-            × Holds g o L p.now h answer (view_of S.state self.old) × (length L ≡ index) × (mode_is_live (mode_of o h) ≡ false) }
+        requires ready { (g : Origin) × (o : FifoOptions) × (T : List Given) × (h : History)
+            × Holds g o T index p.now h answer (view_of S.state self.old) × (mode_is_live (mode_of o h) ≡ false) }
         requires few { index < 2 ^ 61 }
-        ensures { (g : Origin) (o : FifoOptions) (L : List Packet) (h : History)
-            → Holds g o L p.now h answer (view_of S.state self.old) → length L ≡ index → Ends g o L p.now h answer (view_of S.state self.new) }
+        ensures { (g : Origin) (o : FifoOptions) (T : List Given) (h : History)
+            → Holds g o T index p.now h answer (view_of S.state self.old) → Ends g o T index p.now h answer (view_of S.state self.new) }
     {
         match self.tell(answer) {
             After::Settle(fate) => self.settle(index, fate),
@@ -327,11 +336,11 @@ impl<S: Shelf> SlaveJob<S> {
 
     // Ends the turn of the packet in hand, after one more try where that may be.
     fn conclude(&mut self, index: u64, p: &Packet, answer: Answer)
-        requires ready { (g : Origin) × (o : FifoOptions) × (L : List Packet) × (h : History)
-            × Holds g o L p.now h answer (view_of S.state self.old) × (length L ≡ index) × Takes g p.now }
+        requires ready { (g : Origin) × (o : FifoOptions) × (T : List Given) × (h : History)
+            × Holds g o T index p.now h answer (view_of S.state self.old) × Takes g p.now }
         requires few { index < 2 ^ 61 }
-        ensures { (g : Origin) (o : FifoOptions) (L : List Packet) (h : History)
-            → Holds g o L p.now h answer (view_of S.state self.old) → length L ≡ index → Takes g p.now → Concludes g o L p.now h answer (view_of S.state self.new) }
+        ensures { (g : Origin) (o : FifoOptions) (T : List Given) (h : History)
+            → Holds g o T index p.now h answer (view_of S.state self.old) → Takes g p.now → Concludes g o T index p.now h answer (view_of S.state self.new) }
     {
         match self.tell(answer) {
             After::Settle(fate) => self.settle(index, fate),
@@ -344,11 +353,11 @@ impl<S: Shelf> SlaveJob<S> {
 
     // Does what the machine says of the packet.
     fn act(&mut self, index: u64, p: &Packet)
-        requires ready { (g : Origin) × (o : FifoOptions) × (L : List Packet) × (h : History)
-            × Primed g o L p.now h (view_of S.state self.old) × (length L ≡ index) × Takes g p.now }
+        requires ready { (g : Origin) × (o : FifoOptions) × (T : List Given) × (h : History)
+            × PrimedFor g o T index p.now h (view_of S.state self.old) × Takes g p.now }
         requires few { index < 2 ^ 61 }
-        ensures { (g : Origin) (o : FifoOptions) (L : List Packet) (h : History)
-            → Primed g o L p.now h (view_of S.state self.old) → length L ≡ index → Takes g p.now → Acts g o L p.now h (view_of S.state self.new) }
+        ensures { (g : Origin) (o : FifoOptions) (T : List Given) (h : History)
+            → PrimedFor g o T index p.now h (view_of S.state self.old) → Takes g p.now → Acts g o T index p.now h (view_of S.state self.new) }
     {
         let facts = self.facts(p);
         match self.fifo.on_packet(index, facts) {
@@ -372,6 +381,17 @@ impl<S: Shelf> SlaveJob<S> {
         ensures { (g : Origin) (o : FifoOptions) (L : List Packet) (k : Keeps g o L (view_of S.state self.old))
             → length L ≡ index → Takes g p.now → Grows g o (L ++ p.now ∷ []) k.history (view_of S.state self.new) }
     {
+        self.write_at(index, p);
+    }
+
+    /// Does the same for a packet whose index may lie behind a gap.
+    pub fn write_at(&mut self, index: u64, p: &Packet)
+        requires ready { (g : Origin) × (o : FifoOptions) × (T : List Given)
+            × KeepsAll g o T (view_of S.state self.old) × (end_from 0 T ≤ index) × Takes g p.now }
+        requires few { index < 2 ^ 61 }
+        ensures { (g : Origin) (o : FifoOptions) (T : List Given) (k : KeepsAll g o T (view_of S.state self.old))
+            → end_from 0 T ≤ index → Takes g p.now → GrowsAll g o (T ++ Sent index p.now ∷ []) k.history (view_of S.state self.new) }
+    {
         let facts = self.facts(p);
         let expected = self.expected(index, facts);
         if self.make_room(index, expected) {
@@ -379,6 +399,46 @@ impl<S: Shelf> SlaveJob<S> {
         } else {
             self.fifo.on_want();
             self.act(index, p);
+        }
+    }
+
+    // What becomes of a packet that is flushed.
+    fn flushed(&self, index: u64, number: u64) -> Fate
+        requires free { hand_of self.now.fifo ≡ None }
+        requires later { next_of self.now.fifo ≤ index }
+        requires few { index < 2 ^ 61 }
+        ensures { (o : FifoOptions) (h : History) → Shows o h None self.now.fifo → result ≡ flush_of o h number }
+    {
+        let mut next = self.fifo;
+        next.on_flush(number, index)
+    }
+
+    // Settles the fate of a packet that is flushed.
+    fn sweep(&mut self, index: u64, number: u64)
+        requires ready { (g : Origin) × (o : FifoOptions) × (T : List Given) × (h : History)
+            × Primed g o T (Swept index number) (flush_of o h number) h (view_of S.state self.old) }
+        requires few { index < 2 ^ 61 }
+        ensures { (g : Origin) (o : FifoOptions) (T : List Given) (h : History)
+            → Primed g o T (Swept index number) (flush_of o h number) h (view_of S.state self.old) → Sweeps g o T index number h (view_of S.state self.new) }
+    {
+        let fate = self.fifo.on_flush(number, index);
+        self.settle(index, fate);
+    }
+
+    /// Makes the machine's step for a packet that is flushed, by the overflow of that number. Its index may lie behind a gap.
+    pub fn flush_at(&mut self, index: u64, number: u64)
+        requires ready { (g : Origin) × (o : FifoOptions) × (T : List Given)
+            × KeepsAll g o T (view_of S.state self.old) × (end_from 0 T ≤ index) }
+        requires few { index < 2 ^ 61 }
+        ensures { (g : Origin) (o : FifoOptions) (T : List Given) (k : KeepsAll g o T (view_of S.state self.old))
+            → end_from 0 T ≤ index → GrowsAll g o (T ++ Swept index number ∷ []) k.history (view_of S.state self.new) }
+    {
+        let expected = self.flushed(index, number);
+        if self.make_room(index, expected) {
+            self.sweep(index, number);
+        } else {
+            self.fifo.on_want();
+            self.sweep(index, number);
         }
     }
 
@@ -417,6 +477,17 @@ impl<S: Shelf> SlaveJob<S> {
         ensures ended { (g : Origin) (o : FifoOptions) (L : List Packet) (k : Keeps g o L (view_of S.state self))
             → EndedBy g o L k.history (end_view S.state result) }
         ensures given_up { (g : Origin) (o : FifoOptions) (L : List Packet) (k : Keeps g o L (view_of S.state self))
+            → mode_is_dead (mode_of o k.history) ≡ true → IsUnclosed result.state }
+    {
+        self.finish_all()
+    }
+
+    /// Does the same for packets with gaps.
+    pub fn finish_all(mut self) -> SlaveEnd<S>
+        requires { (g : Origin) × (o : FifoOptions) × (T : List Given) × KeepsAll g o T (view_of S.state self) }
+        ensures ended { (g : Origin) (o : FifoOptions) (T : List Given) (k : KeepsAll g o T (view_of S.state self))
+            → EndedAllBy g o T k.history (end_view S.state result) }
+        ensures given_up { (g : Origin) (o : FifoOptions) (T : List Given) (k : KeepsAll g o T (view_of S.state self))
             → mode_is_dead (mode_of o k.history) ≡ true → IsUnclosed result.state }
     {
         if self.fifo.is_live() {

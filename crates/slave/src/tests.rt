@@ -457,18 +457,36 @@ fn a_key_packet_begins_the_next_file(rt: HostRuntime) -> Result<(), Fail> {
     Ok(())
 }
 
-// A shelf that tells nothing of its files, and refuses the flush of this number, from 0.
+// A shelf that tells nothing of its files, and refuses the flush of this number, from 0, with this fault.
 #[derive(Drop)]
 struct Refusing {
     refused: u64,
+    fault: ShelfFault,
     flushes: u64,
     writing: bool,
     faults: u64,
-    ghost small: { faults < 2 ^ 64 },
+    wants: u64,
+    ghost few_faults: { faults < 2 ^ 64 },
+    ghost few_wants: { wants < 2 ^ 64 },
+}
+
+impl Refusing {
+    fn new(refused: u64, fault: ShelfFault) -> Refusing
+        ensures { result.writing ≡ false }
+    {
+        Refusing {
+            refused,
+            fault,
+            flushes: 0,
+            writing: false,
+            faults: 0,
+            wants: 0,
+        }
+    }
 }
 
 impl Shelf for Refusing {
-    ghost state = { λ s. record { takes = None; calls = None; accepted = None; writing = s.writing; faults = s.faults; wants = 0; sound = false } };
+    ghost state = { λ s. record { takes = None; calls = None; accepted = None; writing = s.writing; faults = s.faults; wants = s.wants; sound = false } };
 
     fn create(&mut self, _: &str) -> Result<(), ShelfFault> {
         self.writing = true;
@@ -487,12 +505,20 @@ impl Shelf for Refusing {
     fn flush(&mut self) -> Result<(), ShelfFault> {
         let refused = self.flushes == self.refused;
         self.flushes = self.flushes.saturating_add(1);
-        if refused {
-            self.writing = false;
-            self.faults = self.faults.saturating_add(1);
-            return Err(ShelfFault::Failed);
+        if !refused {
+            return Ok(());
         }
-        Ok(())
+        self.writing = false;
+        match self.fault {
+            ShelfFault::Failed => {
+                self.faults = self.faults.saturating_add(1);
+                Err(ShelfFault::Failed)
+            }
+            ShelfFault::NoMemory => {
+                self.wants = self.wants.saturating_add(1);
+                Err(ShelfFault::NoMemory)
+            }
+        }
     }
 
     fn fault_count(&self) -> u64 {
@@ -500,7 +526,7 @@ impl Shelf for Refusing {
     }
 
     fn want_count(&self) -> u64 {
-        0
+        self.wants
     }
 }
 
@@ -508,12 +534,7 @@ impl Shelf for Refusing {
 // that its last write had accepted doesn't count.
 #[test]
 fn a_flush_is_refused(rt: HostRuntime) -> Result<(), Fail> {
-    let shelf = Refusing {
-        refused: 1,
-        flushes: 0,
-        writing: false,
-        faults: 0,
-    };
+    let shelf = Refusing::new(1, ShelfFault::Failed);
     let end = written(rt.alloc(), RECOVERS, Kind::Audio, &[0, 23, 46], shelf)?;
     assert_eq!(rt; end.state, EndState::Closed);
     let fates = [run(Fate::Written(0), 0, 1), run(Fate::Written(1), 1, 2)];
@@ -564,5 +585,94 @@ fn memory_may_be_wanted(rt: HostRuntime) -> Result<(), Fail> {
         EndState::Closed
     };
     assert_eq!(rt; end.state, right);
+    Ok(())
+}
+
+// A packet of this index is given, or flushed by the overflow of this number.
+#[derive(Clone, Copy)]
+enum Turn {
+    Packet(u64),
+    Flush(u64, u64),
+}
+
+fn index_of(turn: Turn) -> u64 {
+    match turn {
+        Turn::Packet(index) => index,
+        Turn::Flush(index, _) => index,
+    }
+}
+
+// An output of these turns.
+fn given<S: Shelf + Drop>(
+    alloc: Global,
+    kind: Kind,
+    turns: &[Turn],
+    shelf: S,
+) -> Result<SlaveEnd<S>, Fail>
+    requires idle { (S.state shelf).writing ≡ false }
+{
+    let name = String::from_str(alloc, "a")?;
+    let streams = streams(alloc, kind)?;
+    let mut job = match SlaveJob::new(alloc, name, format(kind), RESTARTS, streams, shelf) {
+        Ok(job) => job,
+        Err((_, refused)) => return Err(Fail::from(refused)),
+    };
+    job.start();
+    let mut next = 0;
+    for turn in turns {
+        let index = index_of(*turn);
+        if index < next || index > 100 {
+            return Err(Fail::new("an index"));
+        }
+        let p = packet(alloc, kind, 0, index)?;
+        next = index + 1;
+        match *turn {
+            Turn::Packet(_) => job.write_at(index, &p),
+            Turn::Flush(_, number) => job.flush_at(index, number),
+        }
+    }
+    Ok(job.finish_all())
+}
+
+// The packets 1 and 2 were refused, and 5 is flushed. Behind each gap a packet waits for a key packet.
+#[test]
+fn packets_with_gaps(rt: HostRuntime) -> Result<(), Fail> {
+    let turns = [
+        Turn::Packet(0),
+        Turn::Packet(3),
+        Turn::Packet(4),
+        Turn::Flush(5, 1),
+        Turn::Packet(7),
+        Turn::Packet(8),
+    ];
+    let end = given(rt.alloc(), Kind::Video, &turns, MemShelf::new(rt.alloc()))?;
+    assert_eq!(rt; end.state, EndState::Closed);
+    let fates = [
+        run(Fate::Written(0), 0, 1),
+        run(Fate::KeyWait, 3, 1),
+        run(Fate::Written(0), 4, 1),
+        run(Fate::Flushed(1), 5, 1),
+        run(Fate::KeyWait, 7, 1),
+        run(Fate::Written(0), 8, 1),
+    ];
+    assert_eq!(rt; end.fates.as_slice(), fates.as_slice());
+    Ok(())
+}
+
+// Once memory was wanted there is one run for all that comes, and for what was refused between.
+#[test]
+fn memory_is_wanted_for_good(rt: HostRuntime) -> Result<(), Fail> {
+    let turns = [
+        Turn::Packet(0),
+        Turn::Packet(2),
+        Turn::Packet(5),
+        Turn::Flush(9, 3),
+    ];
+    let shelf = Refusing::new(1, ShelfFault::NoMemory);
+    let end = given(rt.alloc(), Kind::Audio, &turns, shelf)?;
+    assert_eq!(rt; end.state, EndState::NoMemory);
+    let fates = [run(Fate::Written(0), 0, 1), run(Fate::NoMemory, 2, 8)];
+    assert_eq!(rt; end.fates.as_slice(), fates.as_slice());
+    assert!(rt; end.faults.as_slice().is_empty());
     Ok(())
 }

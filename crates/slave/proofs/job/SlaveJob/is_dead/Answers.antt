@@ -1,5 +1,6 @@
-use Rattle.std.proofs.Common.{None}
+use Rattle.slave.specs.Given.{sent_from}
+use Rattle.slave.proofs.Direct.{keeps_all}
 use Rattle.slave.proofs.job.SlaveJob.is_dead.Goals as goal
 
 pub returns : goal.returns
-returns g c = λ out o L k. c.is_dead.ensures o k.history None k.stands.shows
+returns g c = λ out o L k. c.is_given_up.ensures out o (sent_from 0 L) (keeps_all k)
