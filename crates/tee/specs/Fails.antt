@@ -1,0 +1,41 @@
+-- Which output's failure ends a run.
+use Rattle.std.specs.Prelude.{ℕ, ◌+◌, Bool, true, false, ◌&&◌, ◌||◌, not, if◌then◌else◌, List, [], ◌∷◌, Option, Some, None}
+use Rattle.std.specs.List.{list_any, list_all}
+use Rattle.fifo_core.specs.declared.types.EndState.{EndState}
+use Rattle.fifo_core.specs.declared.types.EndState.TheVariants as ends
+
+-- one that aborts is dead, or every one is
+abbrev pub any_both : List Bool → List Bool → Bool
+any_both [] bs = false
+any_both (a ∷ as) [] = false
+any_both (a ∷ as) (b ∷ bs) = (a && b) || any_both as bs
+
+abbrev pub all_of : List Bool → Bool
+all_of bs = list_all (λ b. b) bs
+
+abbrev pub stops : List Bool → List Bool → Bool
+stops aborts dead = any_both aborts dead || all_of dead
+
+abbrev pub is_failed : EndState → Bool
+is_failed ends.Closed = false
+is_failed ends.Failed = true
+is_failed ends.NoMemory = false
+
+abbrev pub is_want : EndState → Bool
+is_want ends.Closed = false
+is_want ends.Failed = false
+is_want ends.NoMemory = true
+
+-- the first output that aborts and failed, counted from that number on
+abbrev pub first_failed_from : ℕ → List Bool → List EndState → Option ℕ
+first_failed_from n [] states = None
+first_failed_from n (a ∷ as) [] = None
+first_failed_from n (a ∷ as) (s ∷ ss) = if a && is_failed s then Some n else first_failed_from (n + 1) as ss
+
+-- the output whose failure ends the run: the first that aborts, or 0 where every one failed and none aborts
+abbrev pub failed_slave : List Bool → List EndState → Option ℕ
+failed_slave aborts states = elim first_failed_from 0 aborts states [ Some k ↦ Some k | None ↦ if list_all is_failed states then Some 0 else None ]
+
+-- memory was wanted by an output
+abbrev pub any_want : List EndState → Bool
+any_want states = list_any is_want states

@@ -1,0 +1,6 @@
+pub mod Choice
+pub mod Ends
+pub mod Fails
+pub mod Fed
+pub mod Keeps
+pub mod Seat

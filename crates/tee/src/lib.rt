@@ -1,0 +1,10 @@
+//! All outputs of a run, fed as one.
+#![tactic(auto)]
+
+mod fault;
+mod fed;
+mod tee;
+
+pub use fault::{TeeFault, TeeRefused};
+pub use fed::Fed;
+pub use tee::{Tee, TeeEnd};
