@@ -26,7 +26,7 @@ use Rattle.slave.proofs.Rows.{map_push, faults_push_none, faults_push_some, pack
 use Rattle.slave.specs.Table.{Keeps}
 use Rattle.fifo_core.specs.History.{is_live, end_of}
 use Rattle.slave.specs.Job.{Closes}
-use Rattle.slave.specs.End.{EndView, EndsAs, EndNotes, Ended}
+use Rattle.slave.specs.End.{EndView, EndsAs, EndNotes, EndedBy}
 use Rattle.slave.proofs.Steps.{open_row}
 
 live_bools : (w : Bool) (m : Mode) (b : Bool) → b ≡ true → b ≡ (if w then false else mode_is_live m) → (w ≡ false) × (m ≡ Live)
@@ -65,40 +65,42 @@ same_want_counts k = ap (λ (s : ShelfState). s.wants) k.shelf
 
 -- the muxer's end was not called
 pub ended_closed : {out : Origin} {o : FifoOptions} {L : List Packet} (v : JobView) (e : EndView) (k : Keeps out o L v) (b : Bool) → b ≡ false → b ≡ is_live o k.history
-    → EndTells v e → e.state ≡ end_of k.history None → Ended out o L e
+    → EndTells v e → e.state ≡ end_of k.history None → EndedBy out o L k.history e
 ended_closed v e k b shut is_b told st =
-    let t = k.stands.table in
-    record {
-      history = k.history;
-      follows = k.follows;
-      count = k.stands.count;
-      indexed = k.stands.indexed;
-      order = rw told.fates k.stands.order;
-      end_answer = None;
-      end_called = sym shut ∙ is_b;
-      state = st;
-      fates = rw told.fates t.fates;
-      rows = t.rows;
-      front = t.last.front;
-      last = t.last.last;
-      split = t.last.split;
-      numbered = t.numbered;
-      number = t.last.number;
-      ends_as = tt;
-      are_sessions = told.sessions ∙ t.are_sessions;
-      are_faults = told.faults ∙ t.are_faults;
-      counts = k.stands.kit.counts;
-      before = told.before;
-      added = told.added;
-      chain = rw told.shelf t.chain;
-      bytes = told.bytes;
-      each = t.each;
-      packets = t.packets ∙ append-nil _;
-      notes = rw told.faults t.notes;
-      inline = told.inline;
-      wants = rw (same_want_counts told) t.wants;
-      excuse = λ x none. rw (same_want_counts told) (t.excuse (want_shown (wanted k.history) (sym st ∙ x)) (sym told.faults ∙ none));
-    }
+    let t = k.stands.table in (
+      record {
+        history = k.history;
+        follows = k.follows;
+        count = k.stands.count;
+        indexed = k.stands.indexed;
+        order = rw told.fates k.stands.order;
+        end_answer = None;
+        end_called = sym shut ∙ is_b;
+        state = st;
+        fates = rw told.fates t.fates;
+        rows = t.rows;
+        front = t.last.front;
+        last = t.last.last;
+        split = t.last.split;
+        numbered = t.numbered;
+        number = t.last.number;
+        ends_as = tt;
+        are_sessions = told.sessions ∙ t.are_sessions;
+        are_faults = told.faults ∙ t.are_faults;
+        counts = k.stands.kit.counts;
+        before = told.before;
+        added = told.added;
+        chain = rw told.shelf t.chain;
+        bytes = told.bytes;
+        each = t.each;
+        packets = t.packets ∙ append-nil _;
+        notes = rw told.faults t.notes;
+        inline = told.inline;
+        wants = rw (same_want_counts told) t.wants;
+        excuse = λ x none. rw (same_want_counts told) (t.excuse (want_shown (wanted k.history) (sym st ∙ x)) (sym told.faults ∙ none));
+      },
+      refl,
+    )
 
 end_wanted : (a : Answer) (h : History) → end_of h (Some a) ≡ ends.NoMemory → a ≡ answer.NoMemory
 end_wanted answer.Done h e = absurd (cc e)
@@ -116,7 +118,7 @@ module _ {out : Origin} {o : FifoOptions} {L : List Packet} (v w : JobView) (e :
       → q.note.number ≡ k.stands.table.last.last.note.number → q.before ≡ k.stands.table.last.last.before → q.after ≡ w.shelf → RowHolds out L q
       → q.written ≡ k.stands.table.last.last.written → EndsAs (Some b) q
       → w.sessions ≡ map row_note (k.stands.table.last.front ++ q ∷ []) → w.faults ≡ filter_map row_fault (k.stands.table.last.front ++ q ∷ [])
-      → EndNotes k.history (Some b) w.faults → Ended out o L e
+      → EndNotes k.history (Some b) w.faults → EndedBy out o L k.history e
   closing b q c st is_open same_number same_before is_after holds same_written ends_so ss fs ns =
       let t = k.stands.table in
       let fr = t.last.front in
@@ -124,41 +126,43 @@ module _ {out : Origin} {o : FifoOptions} {L : List Packet} (v w : JobView) (e :
       let chained : Chain out.shelf (fr ++ x ∷ []) v.shelf = rw t.last.split at t.chain in
       let all : AllRows out L (fr ++ x ∷ []) = rw t.last.split at t.each in
       let numbers : Numbered 0 (fr ++ x ∷ []) = rw t.last.split at t.numbered in
-      let before : flat_map row_packets (fr ++ x ∷ []) ≡ written_of L (fates_of k.history) ++ [] = rw t.last.split at t.packets in
-      record {
-        history = k.history;
-        follows = k.follows;
-        count = k.stands.count;
-        indexed = k.stands.indexed;
-        order = rw (told.fates, c.runs) k.stands.order;
-        end_answer = Some b;
-        end_called = sym is_open;
-        state = st;
-        fates = rw (told.fates, c.runs) t.fates;
-        rows = fr ++ q ∷ [];
-        front = fr;
-        last = q;
-        split = refl;
-        numbered = numbered_push 0 fr q (numbered_front 0 fr x numbers) (same_number ∙ numbered_last 0 fr x numbers);
-        number = same_number ∙ t.last.number;
-        ends_as = ends_so;
-        are_sessions = told.sessions ∙ ss;
-        are_faults = told.faults ∙ fs;
-        counts = k.stands.kit.counts;
-        before = told.before;
-        added = told.added;
-        chain = rw (told.shelf, ← is_after) (chain_last out.shelf v.shelf fr x q chained same_before);
-        bytes = told.bytes;
-        each = rows_push out L fr q (rows_front out L fr x all) holds;
-        packets = packets_push fr q ∙ rw (same_number, same_written) (sym (packets_push fr x) ∙ before ∙ append-nil (written_of L (fates_of k.history)));
-        notes = rw told.faults ns;
-        inline = told.inline;
-        wants = rw (same_want_counts told) (omega (arith, t.wants, c.want_counts));
-        excuse = λ y none. rw (same_want_counts told)
-            (rose_later out.shelf.wants v.shelf.wants w.shelf.wants t.wants (wants_at b v w c (end_wanted b k.history (sym st ∙ y))));
-      }
+      let before : flat_map row_packets (fr ++ x ∷ []) ≡ written_of L (fates_of k.history) ++ [] = rw t.last.split at t.packets in (
+        record {
+          history = k.history;
+          follows = k.follows;
+          count = k.stands.count;
+          indexed = k.stands.indexed;
+          order = rw (told.fates, c.runs) k.stands.order;
+          end_answer = Some b;
+          end_called = sym is_open;
+          state = st;
+          fates = rw (told.fates, c.runs) t.fates;
+          rows = fr ++ q ∷ [];
+          front = fr;
+          last = q;
+          split = refl;
+          numbered = numbered_push 0 fr q (numbered_front 0 fr x numbers) (same_number ∙ numbered_last 0 fr x numbers);
+          number = same_number ∙ t.last.number;
+          ends_as = ends_so;
+          are_sessions = told.sessions ∙ ss;
+          are_faults = told.faults ∙ fs;
+          counts = k.stands.kit.counts;
+          before = told.before;
+          added = told.added;
+          chain = rw (told.shelf, ← is_after) (chain_last out.shelf v.shelf fr x q chained same_before);
+          bytes = told.bytes;
+          each = rows_push out L fr q (rows_front out L fr x all) holds;
+          packets = packets_push fr q ∙ rw (same_number, same_written) (sym (packets_push fr x) ∙ before ∙ append-nil (written_of L (fates_of k.history)));
+          notes = rw told.faults ns;
+          inline = told.inline;
+          wants = rw (same_want_counts told) (omega (arith, t.wants, c.want_counts));
+          excuse = λ y none. rw (same_want_counts told)
+              (rose_later out.shelf.wants v.shelf.wants w.shelf.wants t.wants (wants_at b v w c (end_wanted b k.history (sym st ∙ y))));
+        },
+        refl,
+      )
 
-  pub ended_live : (b : Answer) → Closes out k.stands.table.last.last.written v b w → e.state ≡ end_of k.history (Some b) → is_live o k.history ≡ true → Ended out o L e
+  pub ended_live : (b : Answer) → Closes out k.stands.table.last.last.written v b w → e.state ≡ end_of k.history (Some b) → is_live o k.history ≡ true → EndedBy out o L k.history e
   ended_live answer.Done c st is_open =
       let t = k.stands.table in
       let fr = t.last.front in

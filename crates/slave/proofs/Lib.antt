@@ -3,6 +3,8 @@ pub mod Begin
 pub mod CallsLemmas
 pub mod Faultless
 pub mod Finish
+pub mod GivenUp
+pub mod Later
 pub mod Lists
 pub mod Room
 pub mod Past

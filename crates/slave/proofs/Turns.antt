@@ -32,8 +32,9 @@ use Rattle.fifo_core.specs.History.{action_of, needs_restart, after_answer_of, a
 use Rattle.fifo_core.specs.State.{Shows, next_of}
 use Rattle.fifo_core.specs.Follows.{Turn, Comes, MayWant, Made, Runs}
 use Rattle.slave.specs.Origin.{facts_of}
-use Rattle.slave.specs.Table.{HasPlaces, Stands, Holds, Tells, Ends, Concludes, Primed, Acts, Keeps, expected_in, turns_from}
+use Rattle.slave.specs.Table.{HasPlaces, Stands, Holds, Tells, Ends, Concludes, Primed, Acts, Keeps, Grows, expected_in, turns_from}
 use Rattle.slave.specs.Job.{is_fault, MakesRoom}
+use Rattle.slave.proofs.Later.{turn_adds, turn_dead}
 use Rattle.slave.proofs.Steps.{widened, recorded, want_before, want_now, put_made, opened_put, fault_closes}
 
 same_fate : {f g : Fate} → after.Settle f ≡ after.Settle g → f ≡ g
@@ -479,18 +480,25 @@ runs_push : (o : FifoOptions) (h : History) (ts : List Turn) (t : Turn) (mid new
 runs_push o h [] t mid new r m = (new, rw (← r) m, refl)
 runs_push o h (u ∷ ts) t mid new r m = (r.0, r.1, runs_push o r.0 ts t mid new r.2 m)
 
-pub keeps_on : {out : Origin} {o : FifoOptions} {L : List Packet} {p : Packet} {v w : JobView} (k : Keeps out o L v) (g : History)
-    → MayWant k.history g → Acts out o L p g w → Keeps out o (L ++ p ∷ []) w
-keeps_on {out = out} {o = o} {L = L} {p = p} k g may a = record {
-  history = a.new;
-  follows = (
-    k.follows.0,
-    k.follows.1,
-    k.follows.2,
-    rw (turns_push out 0 L p) (runs_push o k.follows.1 (turns_from out 0 L) (Comes (0 + length L) (facts_of out p)) k.history a.new k.follows.3 (rw (zero-add (length L)) (g, may, a.acted))),
-  );
-  stands = a.stands;
-}
+pub grows : {out : Origin} {o : FifoOptions} {L : List Packet} {p : Packet} {v w : JobView} (k : Keeps out o L v) (g : History)
+    → MayWant k.history g → Acts out o L p g w → Grows out o (L ++ p ∷ []) k.history w
+grows {out = out} {o = o} {L = L} {p = p} k g may a =
+    let adds = turn_adds o k.history g (length L) (facts_of out p) a.new may a.acted in
+    record {
+      keeps = record {
+        history = a.new;
+        follows = (
+          k.follows.0,
+          k.follows.1,
+          k.follows.2,
+          rw (turns_push out 0 L p) (runs_push o k.follows.1 (turns_from out 0 L) (Comes (0 + length L) (facts_of out p)) k.history a.new k.follows.3 (rw (zero-add (length L)) (g, may, a.acted))),
+        );
+        stands = a.stands;
+      };
+      later = adds.0;
+      goes_on = adds.1;
+      stays_dead = turn_dead o k.history g (length L) (facts_of out p) a.new may a.acted;
+    }
 
 -- room was made, or refused
 pub roomy : {out : Origin} {o : FifoOptions} {L : List Packet} {h : History} (i : ℕ) (f : Fate) (b : Bool) (v w : JobView)

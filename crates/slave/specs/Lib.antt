@@ -6,5 +6,6 @@ pub mod Headline
 pub mod Job
 pub mod Origin
 pub mod Places
+pub mod Prepared
 pub mod Runs
 pub mod Table

@@ -7,7 +7,7 @@ use Rattle.fifo_core.specs.declared.types.PacketFacts.{PacketFacts}
 use Rattle.fifo_core.specs.declared.types.Answer.TheVariants as answer
 use Rattle.fifo_core.specs.declared.types.Mode.TheVariants.{Live}
 use Rattle.fifo_core.specs.declared.types.Answer.{Answer}
-use Rattle.fifo_core.specs.History.{Begun, Tried, Fated, Want, History, mode_of, mode_is_live, session_of, trying, fates_of, wanted, after_of, action_of}
+use Rattle.fifo_core.specs.History.{Begun, Tried, Fated, Want, History, mode_of, mode_is_live, mode_is_dead, session_of, trying, fates_of, wanted, after_of, action_of}
 use Rattle.fifo_core.specs.Follows.{Turn, Comes, Follows, MayWant, Answered, Acted}
 use Rattle.fifo_core.specs.State.{Shows, next_of, after_answer, hand_after_answer}
 use Rattle.fifo_core.specs.declared.types.After.{After}
@@ -199,6 +199,14 @@ pub record Keeps (g : Origin) (o : FifoOptions) (L : List Packet) (v : JobView) 
   pub history : History
   pub follows : Follows o (turns_from g 0 L) history
   pub stands : Stands g o L history v
+
+-- The job stands where these packets left it, and its history goes on from the one before. An output that was given up
+-- stays so.
+pub record Grows (g : Origin) (o : FifoOptions) (L : List Packet) (before : History) (v : JobView) : Type 0 where
+  pub keeps : Keeps g o L v
+  pub later : History
+  pub goes_on : keeps.history ≡ later ++ before
+  pub stays_dead : mode_is_dead (mode_of o before) ≡ true → mode_is_dead (mode_of o keeps.history) ≡ true
 
 abbrev pub ahead_of : ℕ → Packet → Answer → List (ℕ × Packet)
 ahead_of s p answer.Done = (s, p) ∷ []

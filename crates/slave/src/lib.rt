@@ -2,6 +2,7 @@
 #![tactic(auto)]
 
 mod job;
+mod kit;
 mod laws;
 mod mux;
 mod name;
@@ -10,7 +11,8 @@ mod records;
 mod runs;
 
 pub use job::{SlaveEnd, SlaveJob};
-pub use laws::{ends_meet_accounts, no_fault_no_loss};
+pub use kit::SlaveKit;
+pub use laws::{ends_meet_accounts, given_up_stays_so, no_fault_no_loss};
 pub use mux::Mux;
 pub use name::session_name;
 pub use places::Places;

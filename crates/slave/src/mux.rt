@@ -13,11 +13,13 @@ use aac_adts::AdtsMux;
 use flv_mux::FlvMux;
 use rmx_edge::{Shelf, ShelfFault};
 use rmx_media::{Format, MuxStreams, Packet};
+use ts_mux::TsMux;
 
 #[derive(Drop)]
 pub enum Mux {
     Adts(AdtsMux),
     Flv(FlvMux),
+    Mpegts(TsMux),
 }
 
 impl Mux {
@@ -31,6 +33,7 @@ impl Mux {
         match format {
             Format::Adts => Mux::Adts(AdtsMux::new(streams)),
             Format::Flv => Mux::Flv(FlvMux::new(streams)),
+            Format::Mpegts => Mux::Mpegts(TsMux::new(streams)),
             _ => unreachable!(),
         }
     }
@@ -46,6 +49,7 @@ impl Mux {
         match self {
             Mux::Adts(mux) => mux.begin(name, shelf),
             Mux::Flv(mux) => mux.begin(name, shelf),
+            Mux::Mpegts(mux) => mux.begin(name, shelf),
         }
     }
 
@@ -79,6 +83,7 @@ impl Mux {
         match self {
             Mux::Adts(mux) => mux.put(p, shelf),
             Mux::Flv(mux) => mux.put(p, shelf),
+            Mux::Mpegts(mux) => mux.put(p, shelf),
         }
     }
 
@@ -92,6 +97,7 @@ impl Mux {
         match self {
             Mux::Adts(mux) => mux.end(shelf),
             Mux::Flv(mux) => mux.end(shelf),
+            Mux::Mpegts(mux) => mux.end(shelf),
         }
     }
 }
