@@ -1,12 +1,11 @@
 -- Which streams and packets an output takes.
-use Rattle.std.specs.Prelude.{ℕ, ◌+◌, Bool, true, false, ◌==◌, ◌&&◌, if◌then◌else◌, List, [], ◌∷◌, flat_map, filter_map, Option, Some, None}
+use Rattle.std.specs.Prelude.{ℕ, ◌+◌, Bool, true, false, ◌&&◌, List, [], ◌∷◌, filter_map, Option, Some, None}
 use Rattle.std.specs.List.{list_any, filter}
 use Rattle.std.specs.Option.{option_and_then}
 use Rattle.rmx_media.specs.declared.packet.Format.{Format}
 use Rattle.rmx_media.specs.declared.packet.Format.TheVariants.{Flv, Adts, Mpegts, Segment}
 use Rattle.rmx_media.specs.declared.packet.Packet.{Packet}
 use Rattle.rmx_media.specs.declared.streams.Kind.{Kind}
-use Rattle.rmx_media.specs.declared.streams.Kind.TheVariants.{Video, Audio}
 use Rattle.rmx_media.specs.declared.streams.StreamInfo.{StreamInfo}
 use Rattle.rmx_media.specs.declared.streams.MuxStream.{MuxStream}
 use Rattle.rmx_media.specs.Streams.{kind_in}
@@ -14,23 +13,8 @@ use Rattle.playlist.specs.declared.seg_options.SegOptions.{SegOptions}
 use Rattle.bsf_chain.specs.declared.filter.Filter.{Filter}
 use Rattle.bsf_chain.specs.Apply.{result_of}
 use Rattle.options.specs.declared.select.Spec.{Spec}
-use Rattle.options.specs.declared.select.Spec.TheVariants as spec
 use Rattle.options.specs.Slave.{Slave}
-
-abbrev pub is_video : Kind → Bool
-is_video Video = true
-is_video Audio = false
-
-abbrev pub is_audio : Kind → Bool
-is_audio Video = false
-is_audio Audio = true
-
--- whether a specifier selects the stream of that number and kind
-abbrev pub selects : Spec → ℕ → Kind → Bool
-selects spec.All number kind = true
-selects spec.Video number kind = is_video kind
-selects spec.Audio number kind = is_audio kind
-selects (spec.Index n) number kind = n == number
+pub use Rattle.options.specs.Filters.{is_audio, is_video, selects, filters_for}
 
 -- whether files of that format take streams of that kind
 abbrev pub takes_kind : Format → Kind → Bool
@@ -56,21 +40,19 @@ abbrev pub all_streams : List StreamInfo → List MuxStream
 all_streams infos = numbered_from 0 infos
 
 -- an output takes a stream that one of its specifiers selects and that its files take
+abbrev pub is_taken : Slave → ℕ → Kind → Bool
+is_taken s number kind = list_any (λ c. selects c number kind) s.select && takes_kind (file_format s.format s.seg) kind
+
 abbrev pub is_chosen : Slave → MuxStream → Bool
-is_chosen s m = list_any (λ c. selects c m.stream m.info.kind) s.select && takes_kind (file_format s.format s.seg) m.info.kind
+is_chosen s m = is_taken s m.stream m.info.kind
 
 -- the streams that an output takes
 abbrev pub chosen_streams : Slave → List StreamInfo → List MuxStream
 chosen_streams s infos = filter (is_chosen s) (all_streams infos)
 
--- the filters of the chains that select that stream, in the order of the options
-abbrev pub filters_for : List (Spec × List Filter) → ℕ → Kind → List Filter
-filters_for [] number kind = []
-filters_for (c ∷ cs) number kind = if selects c.0 number kind then Rattle.std.specs.Prelude.◌++◌ c.1 (filters_for cs number kind) else filters_for cs number kind
-
 -- what an output with these streams and chains gets of a packet: nothing of another stream, and else what the filters leave
 abbrev pub choice : List MuxStream → List (Spec × List Filter) → Packet → Option Packet
-choice streams chains p = option_and_then (kind_in streams p.stream) (λ kind. result_of (filters_for chains p.stream kind) p)
+choice streams chains p = option_and_then (λ kind. result_of (filters_for chains p.stream kind) p) (kind_in streams p.stream)
 
 -- the packets that an output gets of these
 abbrev pub chosen : List MuxStream → List (Spec × List Filter) → List Packet → List Packet

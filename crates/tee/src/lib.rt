@@ -1,8 +1,11 @@
 //! All outputs of a run, fed as one.
 #![tactic(auto)]
 
+mod choice;
 mod fault;
 mod fed;
+mod filter;
+mod slave;
 mod tee;
 
 pub use fault::{TeeFault, TeeRefused};

@@ -1,27 +1,29 @@
 // All outputs of a run.
-ghost use Rattle.std.specs.Prelude.{◌≡◌, ◌≤◌, ◌<◌, ◌++◌, ◌∷◌, [], ◌^◌, ℕ, true, false, length, List, IfOk, IfErr, OnErr, map, Some, None, All, option_map, is_some};
+ghost use Rattle.std.specs.Prelude.{◌≡◌, ◌≤◌, ◌<◌, ◌+◌, ◌++◌, ◌∷◌, [], ◌^◌, ℕ, true, false, length, List, IfOk, OnErr};
+ghost use Rattle.rmx_media.specs.declared.packet.Packet.{Packet};
+ghost use Rattle.rmx_media.specs.declared.streams.StreamInfo.{StreamInfo as Info};
+ghost use Rattle.tee.specs.Fed.{is_stop};
+ghost use Rattle.tee.specs.Seat.{Seat, IsInput};
 
-use crate::fault::TeeRefused;
 use crate::fed::Fed;
-use options::SlavePlan;
+use crate::slave::TeeSlave;
 use rmx_edge::Shelf;
 use rmx_media::{Items, NoMemory, Packet, StreamInfo};
-use slave::{SlaveEnd, SlaveJob};
-
-/// One output of a tee.
-#[derive(Drop)]
-struct TeeSlave<S: Shelf> {
-    job: SlaveJob<S>,
-}
+use slave::SlaveEnd;
+use std::alloc::Global;
 
 /// Outputs that are fed one packet after another.
 #[derive(Drop)]
 pub struct Tee<S: Shelf> {
-    slaves: Items<TeeSlave<S>>,
-    infos: Items<StreamInfo>,
+    pub(crate) alloc: Global,
+    pub(crate) slaves: Vec<TeeSlave<S>>,
+    pub(crate) infos: Items<StreamInfo>,
+    pub(crate) given: u64,
     /// How many packets were given when an output that aborts, or every one, was first known to be dead.
-    stopped: Option<u64>,
-    spare: Items<S>,
+    pub(crate) stopped: Option<u64>,
+    pub(crate) spare: Items<S>,
+    /// Places for the outputs' ends.
+    pub(crate) ends: Items<SlaveEnd<S>>,
 }
 
 /// What a tee leaves.

@@ -1,0 +1,47 @@
+-- The outputs of a tee, each at its seat.
+use Rattle.std.specs.Prelude.{◌≡◌, ℕ, true, Bool, List, [], ◌∷◌, ◌++◌, length}
+use Rattle.fifo_core.specs.History.{History, mode_of, mode_is_dead}
+use Rattle.rmx_edge.specs.Shelf.{ShelfState}
+use Rattle.rmx_edge.specs.declared.shelf.Shelf.{Ghosts}
+use Rattle.rmx_media.specs.declared.packet.Packet.{Packet}
+use Rattle.rmx_media.specs.declared.streams.StreamInfo.{StreamInfo}
+use Rattle.slave.specs.Job.{view_of}
+use Rattle.slave.specs.Table.{Keeps}
+use Rattle.tee.specs.Route.{IsPlaced}
+use Rattle.tee.specs.Seat.{Seat, chosen}
+use Rattle.tee.specs.declared.slave.TeeSlave.{TeeSlave}
+
+-- the output at that seat got what it takes of these packets, with that history
+pub record Sits {S : Type 0} {ghosts : Ghosts S} (state : S → ShelfState) (infos : List StreamInfo) (given : List Packet)
+    (seat : Seat) (history : History) (slave : TeeSlave S ghosts) : Type 0 where
+  pub placed : IsPlaced infos seat slave.choice
+  pub keeps : Keeps seat.origin seat.slave.fifo (chosen seat given) (view_of state slave.job)
+  pub history_is : keeps.history ≡ history
+  pub count : slave.count ≡ length (chosen seat given)
+
+abbrev pub AllSit : {S : Type 0} {ghosts : Ghosts S} → (S → ShelfState) → List StreamInfo → List Packet → List Seat → List History → List (TeeSlave S ghosts) → Type 0
+AllSit state infos given [] [] [] = Unit {0}
+AllSit state infos given (s ∷ ss) (h ∷ hs) (t ∷ ts) = Sits state infos given s h t × AllSit state infos given ss hs ts
+AllSit state infos given [] [] (t ∷ ts) = ⊥
+AllSit state infos given [] (h ∷ hs) ts = ⊥
+AllSit state infos given (s ∷ ss) [] ts = ⊥
+AllSit state infos given (s ∷ ss) (h ∷ hs) [] = ⊥
+
+-- whether an output with that history was given up
+abbrev pub is_dead : Seat → History → Bool
+is_dead seat history = mode_is_dead (mode_of seat.slave.fifo history)
+
+-- which outputs were given up
+abbrev pub deads : List Seat → List History → List Bool
+deads [] hs = []
+deads (s ∷ ss) [] = []
+deads (s ∷ ss) (h ∷ hs) = is_dead s h ∷ deads ss hs
+
+-- an output got one packet more, or not, as it takes it; given up it stays so
+pub record SitsOn {S : Type 0} {ghosts : Ghosts S} (state : S → ShelfState) (infos : List StreamInfo) (given : List Packet)
+    (seat : Seat) (before : History) (slave : TeeSlave S ghosts) : Type 0 where
+  pub history : History
+  pub sits : Sits state infos given seat history slave
+  pub later : History
+  pub goes_on : history ≡ later ++ before
+  pub stays_dead : is_dead seat before ≡ true → is_dead seat history ≡ true
