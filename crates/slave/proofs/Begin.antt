@@ -22,6 +22,7 @@ opened a v w x b s k f r rp n np ss sp = record {
   made = made_so a v w x b s n np;
   counts = rw s b.calls.counts;
   want_counts = rw s b.calls.want_counts;
+  sound = rw s b.calls.sound;
   kit = rw k b.calls.kit;
   mux = λ e. rw k (b.mux e);
   fifo = f ∙ b.calls.fifo;

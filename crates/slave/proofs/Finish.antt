@@ -9,7 +9,7 @@ use Rattle.fifo_core.specs.declared.types.Mode.TheVariants.{Live, Broken, Dead}
 use Rattle.fifo_core.specs.History.{History, mode_of, mode_is_live, session_of, fates_of, wanted}
 use Rattle.fifo_core.specs.State.{session_in}
 use Rattle.rmx_edge.specs.Shelf.{ShelfState}
-use Rattle.slave.proofs.CallsLemmas.{done_joined, stopped_after}
+use Rattle.slave.proofs.CallsLemmas.{done_joined, stopped_after, sound_then}
 use Rattle.rmx_media.specs.declared.packet.Packet.{Packet}
 use Rattle.slave.specs.Origin.{Origin}
 use Rattle.slave.specs.declared.records.SessionNote.{SessionNote}
@@ -20,7 +20,7 @@ use Rattle.rmx_edge.specs.Count.{raised, Rose}
 use Rattle.rmx_edge.specs.Counted.{with_count}
 use Rattle.rmx_edge.proofs.Run.{rose_later}
 use Rattle.fifo_core.specs.declared.types.EndState.TheVariants as ends
-use Rattle.slave.specs.Job.{JobView, note_at}
+use Rattle.slave.specs.Job.{JobView, SoundStays, note_at}
 use Rattle.slave.specs.Table.{EndFailed, Closed, Row, calls_of, RowHolds, AllRows, Chain, row_note, row_fault, row_packets, written_of, Numbered}
 use Rattle.slave.proofs.Rows.{map_push, faults_push_none, faults_push_some, packets_push, chain_last, rows_push, rows_front, numbered_push, numbered_last, numbered_front}
 use Rattle.slave.specs.Table.{Keeps}
@@ -63,10 +63,13 @@ pub record EndTells (v : JobView) (e : EndView) : Type 0 where
 same_want_counts : {v : JobView} {e : EndView} (k : EndTells v e) → e.shelf.wants ≡ v.shelf.wants
 same_want_counts k = ap (λ (s : ShelfState). s.wants) k.shelf
 
+told_sound : {v : JobView} {e : EndView} (first : ShelfState) (k : EndTells v e) → SoundStays first v.shelf → first.sound ≡ true → e.shelf.faults ≡ first.faults
+told_sound first k s x = ap (λ (y : ShelfState). y.faults) k.shelf ∙ (s x).1
+
 -- the muxer's end was not called
 pub ended_closed : {out : Origin} {o : FifoOptions} {L : List Packet} (v : JobView) (e : EndView) (k : Keeps out o L v) (b : Bool) → b ≡ false → b ≡ is_live o k.history
     → EndTells v e → e.state ≡ end_of k.history None → EndedBy out o L k.history e
-ended_closed v e k b shut is_b told st =
+ended_closed {out = out} v e k b shut is_b told st =
     let t = k.stands.table in (
       record {
         history = k.history;
@@ -96,6 +99,7 @@ ended_closed v e k b shut is_b told st =
         packets = t.packets ∙ append-nil _;
         notes = rw told.faults t.notes;
         inline = told.inline;
+        sound = told_sound out.shelf told t.sound;
         wants = rw (same_want_counts told) t.wants;
         excuse = λ x none. rw (same_want_counts told) (t.excuse (want_shown (wanted k.history) (sym st ∙ x)) (sym told.faults ∙ none));
       },
@@ -155,6 +159,7 @@ module _ {out : Origin} {o : FifoOptions} {L : List Packet} (v w : JobView) (e :
           packets = packets_push fr q ∙ rw (same_number, same_written) (sym (packets_push fr x) ∙ before ∙ append-nil (written_of L (fates_of k.history)));
           notes = rw told.faults ns;
           inline = told.inline;
+          sound = told_sound out.shelf told (sound_then out.shelf v.shelf w.shelf t.sound c.sound);
           wants = rw (same_want_counts told) (omega (arith, t.wants, c.want_counts));
           excuse = λ y none. rw (same_want_counts told)
               (rose_later out.shelf.wants v.shelf.wants w.shelf.wants t.wants (wants_at b v w c (end_wanted b k.history (sym st ∙ y))));

@@ -49,6 +49,7 @@ first_table {out = out} {o = o} answer.Done v w k c =
       fates = rw (c.runs, k.runs) refl;
       notes = c.made.2 ∙ k.faults;
       writing = λ _. c.made.1;
+      sound = rw k.shelf at c.sound;
       wants = omega (arith, same_wants k, c.want_counts);
       excuse = λ x. absurd (cc x);
     }
@@ -67,6 +68,7 @@ first_table {out = out} {o = o} answer.Fault v w k c =
       fates = rw (c.runs, k.runs) refl;
       notes = (v.faults, n, c.made.2, k.shows.session, refl, k.faults);
       writing = λ _. c.made.1 ∙ sym (begun_shut o);
+      sound = rw k.shelf at c.sound;
       wants = omega (arith, same_wants k, c.want_counts);
       excuse = λ x. absurd (cc x);
     }
@@ -84,6 +86,7 @@ first_table {out = out} {o = o} answer.NoMemory v w k c =
       fates = rw (c.runs, k.runs) refl;
       notes = c.made.2 ∙ k.faults;
       writing = λ u. absurd (cc u);
+      sound = rw k.shelf at c.sound;
       wants = omega (arith, same_wants k, c.want_counts);
       excuse = λ x e. rose_later out.shelf.wants v.shelf.wants w.shelf.wants (same_wants k) c.made.4;
     }

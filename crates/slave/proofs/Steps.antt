@@ -23,8 +23,8 @@ use Rattle.slave.specs.declared.records.FaultNote.{FaultNote}
 use Rattle.slave.specs.Calls.{begin_calls, put_calls, puts, MuxAfter}
 use Rattle.slave.specs.Runs.{expand}
 use Rattle.slave.specs.declared.mux.Mux.{Mux}
-use Rattle.slave.specs.Job.{JobView, note_at, Puts, OpensAndPuts}
-use Rattle.slave.proofs.CallsLemmas.{done_joined, stopped_after, first_puts, no_puts}
+use Rattle.slave.specs.Job.{JobView, SoundStays, note_at, Puts, OpensAndPuts}
+use Rattle.slave.proofs.CallsLemmas.{done_joined, stopped_after, first_puts, no_puts, sound_then}
 use Rattle.slave.specs.Table.{Outcome, Open, NotBegun, PutFailed, Row, calls_of, LeftBy, RowHolds, AllRows, Chain, row_note, row_fault, row_packets, if_written, written_of, NotesTell, Table, ahead_of, Numbered}
 use Rattle.slave.proofs.Rows.{map_push, faults_push_none, faults_push_some, packets_push, puts_push, chain_next, chain_last, chain_end, rows_push, rows_front, rows_last, rows_more, written_more, written_push, open_no_fault, numbered_push, numbered_last, numbered_front}
 
@@ -54,6 +54,7 @@ widened {out = out} {L = L} {h = h} p e t = record {
   fates = t.fates;
   notes = t.notes;
   writing = t.writing;
+  sound = t.sound;
   wants = t.wants;
   excuse = t.excuse;
 }
@@ -75,6 +76,7 @@ recorded {h = h} L p f e t d = record {
   fates = d ∙ rw t.fates refl;
   notes = t.notes;
   writing = t.writing;
+  sound = t.sound;
   wants = t.wants;
   excuse = t.excuse;
 }
@@ -112,6 +114,7 @@ want_before {h = h} {faults = faults} s i facts t = record {
   fates = t.fates;
   notes = noted_want s i facts h faults t.notes;
   writing = λ w. absurd (wanted_so s i facts answer.Fault h w);
+  sound = t.sound;
   wants = t.wants;
   excuse = λ w e. absurd (is_noted s i facts h faults t.notes e);
 }
@@ -130,6 +133,7 @@ want_now t excused = record {
   fates = t.fates;
   notes = t.notes;
   writing = λ w. absurd (cc w);
+  sound = t.sound;
   wants = t.wants;
   excuse = λ w e. excused e;
 }
@@ -151,9 +155,9 @@ module _ {out : Origin} {o : FifoOptions} {L : List Packet} {h : History} {shelf
       → row_packets q ≡ row_packets t.last.last ++ ahead → new_sessions ≡ sessions → new_runs ≡ runs
       → new_faults ≡ filter_map row_fault (t.last.front ++ q ∷ []) → t.last.last.note.number ≡ session_of g
       → (wanted g ≡ false → mode_of o g ≡ Live → (q.outcome ≡ Open) × MuxAfter out q.written new_mux) → fates_of g ≡ fates_of h → NotesTell g new_faults
-      → (wanted g ≡ false → new.writing ≡ mode_is_live (mode_of o g)) → shelf.wants ≤ new.wants
+      → (wanted g ≡ false → new.writing ≡ mode_is_live (mode_of o g)) → SoundStays shelf new → shelf.wants ≤ new.wants
       → (wanted g ≡ true → new_faults ≡ [] → Rose out.shelf.wants new.wants) → Table out o L g ahead new new_mux new_runs new_sessions new_faults
-  replaced same_note same_before is_after holds more is_sessions is_runs is_faults number is_open same_fates tells writes more_wants excused =
+  replaced same_note same_before is_after holds more is_sessions is_runs is_faults number is_open same_fates tells writes more_sound more_wants excused =
       let fr = t.last.front in
       let r = t.last.last in
       let chained : Chain out.shelf (fr ++ r ∷ []) shelf = rw t.last.split at t.chain in
@@ -173,6 +177,7 @@ module _ {out : Origin} {o : FifoOptions} {L : List Packet} {h : History} {shelf
         fates = rw (is_runs, same_fates) t.fates;
         notes = tells;
         writing = writes;
+        sound = sound_then out.shelf shelf new t.sound more_sound;
         wants = omega (arith, t.wants, more_wants);
         excuse = excused;
       }
@@ -181,9 +186,9 @@ module _ {out : Origin} {o : FifoOptions} {L : List Packet} {h : History} {shelf
   pub appended : q.before ≡ shelf → q.after ≡ new → RowHolds out L q → row_packets q ≡ ahead → new_sessions ≡ sessions ++ q.note ∷ [] → new_runs ≡ runs
       → new_faults ≡ filter_map row_fault (t.rows ++ q ∷ []) → q.note.number ≡ session_of h + 1 → q.note.number ≡ session_of g
       → (wanted g ≡ false → mode_of o g ≡ Live → (q.outcome ≡ Open) × MuxAfter out q.written new_mux) → fates_of g ≡ fates_of h → NotesTell g new_faults
-      → (wanted g ≡ false → new.writing ≡ mode_is_live (mode_of o g)) → shelf.wants ≤ new.wants
+      → (wanted g ≡ false → new.writing ≡ mode_is_live (mode_of o g)) → SoundStays shelf new → shelf.wants ≤ new.wants
       → (wanted g ≡ true → new_faults ≡ [] → Rose out.shelf.wants new.wants) → Table out o L g ahead new new_mux new_runs new_sessions new_faults
-  appended is_before is_after holds more is_sessions is_runs is_faults next number is_open same_fates tells writes more_wants excused =
+  appended is_before is_after holds more is_sessions is_runs is_faults next number is_open same_fates tells writes more_sound more_wants excused =
       record {
         rows = t.rows ++ q ∷ [];
         last = record { front = t.rows; last = q; split = refl; number = number; is_open = is_open };
@@ -196,6 +201,7 @@ module _ {out : Origin} {o : FifoOptions} {L : List Packet} {h : History} {shelf
         fates = rw (is_runs, same_fates) t.fates;
         notes = tells;
         writing = writes;
+        sound = sound_then out.shelf shelf new t.sound more_sound;
         wants = omega (arith, t.wants, more_wants);
         excuse = excused;
       }
@@ -260,7 +266,7 @@ put_made {out = out} {o = o} {L = L} {h = h} i p facts answer.Done v w t u live 
     (map_push (λ (x : Packet). (r.note.number, x)) r.written p ∙ ap (λ (n : ℕ). row_packets r ++ (n, p) ∷ []) k.number)
     c.sessions c.runs
     (c.made.2 ∙ t.are_faults ∙ rw t.last.split (faults_push_none fr r k.no_fault ∙ sym (faults_push_none fr q refl)))
-    k.number (λ _ _. (refl, made.mux refl)) refl (rw c.made.2 t.notes) (λ _. c.made.1) c.want_counts (λ x e. no_want (wanted h) u x)
+    k.number (λ _ _. (refl, made.mux refl)) refl (rw c.made.2 t.notes) (λ _. c.made.1) c.sound c.want_counts (λ x e. no_want (wanted h) u x)
 put_made {out = out} {o = o} {L = L} {h = h} i p facts answer.Fault v w t u live at in_session made =
     let c = made.calls in
     let fr = t.last.front in
@@ -280,7 +286,7 @@ put_made {out = out} {o = o} {L = L} {h = h} i p facts answer.Fault v w t u live
     c.sessions c.runs
     (c.made.2 ∙ ap (λ (ns : List FaultNote). ns ++ n ∷ []) (t.are_faults ∙ rw t.last.split (faults_push_none fr r k.no_fault)) ∙ sym (faults_push_some fr q n refl))
     k.number (λ _ l. absurd (not_live o (Tried (trying o h) i facts answer.Fault ∷ h) shut l)) refl
-    (v.faults, n, c.made.2, in_session, inl refl, t.notes) (λ _. c.made.1 ∙ sym shut) c.want_counts (λ x e. no_want (wanted h) u x)
+    (v.faults, n, c.made.2, in_session, inl refl, t.notes) (λ _. c.made.1 ∙ sym shut) c.sound c.want_counts (λ x e. no_want (wanted h) u x)
 put_made {out = out} {o = o} {L = L} {h = h} i p facts answer.NoMemory v w t u live at in_session made =
     let c = made.calls in
     let fr = t.last.front in
@@ -297,7 +303,7 @@ put_made {out = out} {o = o} {L = L} {h = h} i p facts answer.NoMemory v w t u l
     (sym (append-nil (row_packets r)))
     c.sessions c.runs
     (c.made.2 ∙ t.are_faults ∙ rw t.last.split (faults_push_none fr r k.no_fault ∙ sym (faults_push_none fr q refl)))
-    k.number (λ x. absurd (cc x)) refl (rw c.made.2 t.notes) (λ x. absurd (cc x)) c.want_counts
+    k.number (λ x. absurd (cc x)) refl (rw c.made.2 t.notes) (λ x. absurd (cc x)) c.sound c.want_counts
     (λ x e. rose_later out.shelf.wants v.shelf.wants w.shelf.wants t.wants c.made.4)
 
 next_differs : (s n : ℕ) → s ≡ n + 1 → s ≢ n
@@ -325,7 +331,7 @@ opened_put {out = out} {o = o} {h = h} i p facts answer.Done v w t u at in_sessi
     (c.sessions ∙ op.sessions) (c.runs ∙ op.runs)
     (c.made.2 ∙ op.made.2 ∙ t.are_faults ∙ sym (faults_push_none t.rows q refl))
     (in_session ∙ next) in_session (λ _ _. (refl, m.2.mux refl)) refl (rw (c.made.2, op.made.2) t.notes) (λ _. c.made.1)
-    (omega (arith, op.want_counts, c.want_counts)) (λ x e. no_want (wanted h) u x)
+    (sound_then v.shelf mid.shelf w.shelf op.sound c.sound) (omega (arith, op.want_counts, c.want_counts)) (λ x e. no_want (wanted h) u x)
 opened_put {out = out} {o = o} {h = h} i p facts answer.Fault v w t u at in_session next (inl m) =
     let mid = m.0 in
     let op = m.1 in
@@ -347,7 +353,7 @@ opened_put {out = out} {o = o} {h = h} i p facts answer.Fault v w t u at in_sess
     (c.made.2 ∙ ap (λ (ns : List FaultNote). ns ++ n ∷ []) (op.made.2 ∙ t.are_faults) ∙ sym (faults_push_some t.rows q n refl))
     (in_session ∙ next) in_session (λ _ l. absurd (not_live o (Tried (trying o h) i facts answer.Fault ∷ h) shut l)) refl
     (mid.faults, n, c.made.2, same ∙ in_session, inl refl, rw op.made.2 t.notes) (λ _. c.made.1 ∙ sym shut)
-    (omega (arith, op.want_counts, c.want_counts)) (λ x e. no_want (wanted h) u x)
+    (sound_then v.shelf mid.shelf w.shelf op.sound c.sound) (omega (arith, op.want_counts, c.want_counts)) (λ x e. no_want (wanted h) u x)
 opened_put {out = out} {o = o} {h = h} i p facts answer.NoMemory v w t u at in_session next (inl m) =
     let mid = m.0 in
     let op = m.1 in
@@ -366,7 +372,7 @@ opened_put {out = out} {o = o} {h = h} i p facts answer.NoMemory v w t u at in_s
     (c.sessions ∙ op.sessions) (c.runs ∙ op.runs)
     (c.made.2 ∙ op.made.2 ∙ t.are_faults ∙ sym (faults_push_none t.rows q refl))
     (in_session ∙ next) in_session (λ x. absurd (cc x)) refl (rw (c.made.2, op.made.2) t.notes) (λ x. absurd (cc x))
-    (omega (arith, op.want_counts, c.want_counts)) (λ x e. rose_later out.shelf.wants mid.shelf.wants w.shelf.wants before c.made.4)
+    (sound_then v.shelf mid.shelf w.shelf op.sound c.sound) (omega (arith, op.want_counts, c.want_counts)) (λ x e. rose_later out.shelf.wants mid.shelf.wants w.shelf.wants before c.made.4)
 opened_put {o = o} {h = h} i p facts answer.Done v w t u at in_session next (inr m) = absurd (cc m.0)
 opened_put {out = out} {o = o} {h = h} i p facts answer.Fault v w t u at in_session next (inr m) =
     let op = m.1 in
@@ -381,7 +387,7 @@ opened_put {out = out} {o = o} {h = h} i p facts answer.Fault v w t u at in_sess
     (op.made.2 ∙ ap (λ (ns : List FaultNote). ns ++ n ∷ []) t.are_faults ∙ sym (faults_push_some t.rows q n refl))
     (in_session ∙ next) in_session (λ _ l. absurd (not_live o (Tried (trying o h) i facts answer.Fault ∷ h) shut l)) refl
     (v.faults, n, op.made.2, in_session, inr (refl, next_differs (trying o h) (session_of h) next), t.notes) (λ _. op.made.1 ∙ sym shut)
-    op.want_counts (λ x e. no_want (wanted h) u x)
+    op.sound op.want_counts (λ x e. no_want (wanted h) u x)
 opened_put {out = out} {o = o} {h = h} i p facts answer.NoMemory v w t u at in_session next (inr m) =
     let op = m.1 in
     let s = session_in v.fifo in
@@ -390,4 +396,4 @@ opened_put {out = out} {o = o} {h = h} i p facts answer.NoMemory v w t u at in_s
     refl refl ((refl, refl, refl, op.made.0), λ e. op.made.4, op.counts, op.want_counts) refl op.sessions op.runs
     (op.made.2 ∙ t.are_faults ∙ sym (faults_push_none t.rows q refl))
     (in_session ∙ next) in_session (λ x. absurd (cc x)) refl (rw op.made.2 t.notes) (λ x. absurd (cc x))
-    op.want_counts (λ x e. rose_later out.shelf.wants v.shelf.wants w.shelf.wants t.wants op.made.4)
+    op.sound op.want_counts (λ x e. rose_later out.shelf.wants v.shelf.wants w.shelf.wants t.wants op.made.4)

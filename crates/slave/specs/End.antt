@@ -85,6 +85,8 @@ pub record Ended (g : Origin) (o : FifoOptions) (L : List Packet) (e : EndView) 
   pub packets : flat_map row_packets rows ≡ written_of L (fates_of history)
   pub notes : EndNotes history end_answer e.faults
   pub inline : e.inline ≡ false
+  -- a sound shelf had no fault
+  pub sound : g.shelf.sound ≡ true → e.shelf.faults ≡ g.shelf.faults
   pub wants : g.shelf.wants ≤ e.shelf.wants
   pub excuse : e.state ≡ ends.NoMemory → e.faults ≡ [] → Rose g.shelf.wants e.shelf.wants
 

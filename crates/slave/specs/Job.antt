@@ -61,6 +61,10 @@ view_of state job = record {
   fault_places = job.faults.spare;
 }
 
+-- a sound shelf had no fault, and is sound still
+abbrev pub SoundStays : ShelfState → ShelfState → Type 0
+SoundStays old new = old.sound ≡ true → (new.sound ≡ true) × (new.faults ≡ old.faults)
+
 -- the note of a fault
 abbrev pub note_at : JobView → FaultAt → JobView → FaultNote
 note_at old at new = record { session = session_in old.fifo; at = at; before = old.shelf.faults; after = new.shelf.faults }
@@ -82,6 +86,7 @@ pub record Calls (g : Origin) (calls : List ShelfCall) (at : FaultAt) (old : Job
   pub made : CallsMade calls at true old a new
   pub counts : old.shelf.faults ≤ new.shelf.faults
   pub want_counts : old.shelf.wants ≤ new.shelf.wants
+  pub sound : SoundStays old.shelf new.shelf
   pub kit : KitOf g new.kit
   pub fifo : new.fifo ≡ old.fifo
   pub runs : new.runs ≡ old.runs
@@ -114,6 +119,7 @@ pub record Opens (g : Origin) (old : JobView) (a : Answer) (new : JobView) : Typ
   pub made : CallsMade (begin_calls g (session_in old.fifo)) Begin true old a new
   pub counts : old.shelf.faults ≤ new.shelf.faults
   pub want_counts : old.shelf.wants ≤ new.shelf.wants
+  pub sound : SoundStays old.shelf new.shelf
   pub kit : KitOf g new.kit
   pub mux : a ≡ answer.Done → MuxAfter g [] new.kit.mux
   pub fifo : new.fifo ≡ old.fifo
@@ -181,6 +187,7 @@ pub record Closes (g : Origin) (before : List Packet) (old : JobView) (a : Answe
   pub made : CallsMade (end_calls g before) End false old a new
   pub counts : old.shelf.faults ≤ new.shelf.faults
   pub want_counts : old.shelf.wants ≤ new.shelf.wants
+  pub sound : SoundStays old.shelf new.shelf
   pub fifo : new.fifo ≡ old.fifo
   pub runs : new.runs ≡ old.runs
   pub sessions : ClosesLast a old.sessions new.sessions

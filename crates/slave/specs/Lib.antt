@@ -8,4 +8,5 @@ pub mod Origin
 pub mod Places
 pub mod Prepared
 pub mod Runs
+pub mod Sample
 pub mod Table

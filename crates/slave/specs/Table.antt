@@ -28,7 +28,7 @@ use Rattle.slave.specs.Origin.{Origin, facts_of}
 use Rattle.slave.specs.Calls.{begin_calls, put_calls, end_calls, puts, MuxAfter}
 use Rattle.slave.specs.declared.records.Run.{Run}
 use Rattle.slave.specs.Runs.{expand, Joins, AreInOrder}
-use Rattle.slave.specs.Job.{JobView, KitOf, is_done, is_fault}
+use Rattle.slave.specs.Job.{JobView, KitOf, SoundStays, is_done, is_fault}
 
 -- how a session stands
 pub data Outcome : Type 0 where
@@ -161,6 +161,7 @@ pub record Table (g : Origin) (o : FifoOptions) (L : List Packet) (h : History) 
   pub fates : expand runs ≡ fates_of h
   pub notes : NotesTell h faults
   pub writing : wanted h ≡ false → shelf.writing ≡ mode_is_live (mode_of o h)
+  pub sound : SoundStays g.shelf shelf
   -- the count of wants rose where memory was wanted and no fault was noted
   pub wants : g.shelf.wants ≤ shelf.wants
   pub excuse : wanted h ≡ true → faults ≡ [] → Rose g.shelf.wants shelf.wants

@@ -8,6 +8,7 @@ returns-in-Ok g c = λ h before kit after.
       made = (run.calls_made, c.in-Ok.ensures.idle h before kit.mux after, refl, refl);
       counts = run.faults;
       want_counts = run.wants;
+      sound = λ e. (let s = run.sound e in (s.sound, s.faults));
       fifo = refl;
       runs = refl;
       sessions = c.close_last.ensures;
@@ -20,6 +21,7 @@ returns-in-Err-NoMemory g c = λ h before kit after.
       made = (run.calls_made, run.writing, refl, refl, run.no_memory refl);
       counts = run.faults;
       want_counts = run.wants;
+      sound = λ e. (let s = run.sound e in (s.sound, s.faults));
       fifo = refl;
       runs = refl;
       sessions = refl;
@@ -32,6 +34,7 @@ returns-in-Err-Failed g c = λ h before kit after.
       made = (run.calls_made, run.writing, c.push.ensures.items ∙ rw (c.session-session.ensures.number, c.fault_count-before.ensures, c.fault_count.ensures) refl, c.push.ensures.spare, run.failed refl);
       counts = run.faults;
       want_counts = run.wants;
+      sound = λ e. (let s = run.sound e in (s.sound, s.faults));
       fifo = refl;
       runs = refl;
       sessions = refl;

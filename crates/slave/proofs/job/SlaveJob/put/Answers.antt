@@ -9,6 +9,7 @@ returns-in-Ok g c = λ h before kit after takes.
         made = (run.calls_made, c.in-Ok.ensures.open refl, refl, refl);
         counts = run.faults;
         want_counts = run.wants;
+        sound = λ e. (let s = run.sound e in (s.sound, s.faults));
         kit = record { name = kit.name; short = kit.short; counts = kit.counts; video = kit.video; mux = c.in-Ok.ensures.of h kit.mux };
         fifo = refl;
         runs = refl;
@@ -27,6 +28,7 @@ returns-in-Err-NoMemory g c = λ h before kit after takes.
         made = (run.calls_made, run.writing, refl, refl, run.no_memory refl);
         counts = run.faults;
         want_counts = run.wants;
+        sound = λ e. (let s = run.sound e in (s.sound, s.faults));
         kit = record { name = kit.name; short = kit.short; counts = kit.counts; video = kit.video; mux = c.in-Err-NoMemory.ensures.of h kit.mux };
         fifo = refl;
         runs = refl;
@@ -45,6 +47,7 @@ returns-in-Err-Failed g c = λ h before kit after takes.
         made = (run.calls_made, run.writing, c.push.ensures.items ∙ rw (c.session-session.ensures.number, c.fault_count-before.ensures, c.fault_count.ensures) refl, c.push.ensures.spare, run.failed refl);
         counts = run.faults;
         want_counts = run.wants;
+        sound = λ e. (let s = run.sound e in (s.sound, s.faults));
         kit = record { name = kit.name; short = kit.short; counts = kit.counts; video = kit.video; mux = c.in-Err-Failed.ensures.of h kit.mux };
         fifo = refl;
         runs = refl;
