@@ -1,0 +1,3 @@
+pub mod Choices
+pub mod Routes
+pub mod Outputs

@@ -10,7 +10,7 @@ use Rattle.tee.specs.Ends.{StopsAt}
 use Rattle.tee.specs.Fails.{stops}
 use Rattle.tee.specs.Seat.{Seat, aborts}
 use Rattle.tee.specs.Sits.{AllSit, deads}
-use Rattle.tee.specs.declared.slave.TeeSlave.{TeeSlave}
+use Rattle.tee.specs.declared.output.TeeSlave.{TeeSlave}
 use Rattle.tee.specs.declared.tee.Tee.{Tee}
 
 -- the streams of its input

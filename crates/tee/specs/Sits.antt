@@ -9,7 +9,7 @@ use Rattle.slave.specs.Job.{view_of}
 use Rattle.slave.specs.Table.{Keeps}
 use Rattle.tee.specs.Route.{IsPlaced}
 use Rattle.tee.specs.Seat.{Seat, chosen}
-use Rattle.tee.specs.declared.slave.TeeSlave.{TeeSlave}
+use Rattle.tee.specs.declared.output.TeeSlave.{TeeSlave}
 
 -- the output at that seat got what it takes of these packets, with that history
 pub record Sits {S : Type 0} {ghosts : Ghosts S} (state : S → ShelfState) (infos : List StreamInfo) (given : List Packet)

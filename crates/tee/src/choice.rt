@@ -1,7 +1,7 @@
 // What an output takes of its input.
 ghost use Rattle.std.specs.Prelude.{◌≡◌, ◌≤◌, ◌<◌, ◌&&◌, true, false, List, length, option_map, if◌then◌else◌, Some, None, IfOk};
 ghost use Rattle.std.specs.List.{list_any};
-ghost use Rattle.options.specs.Filters.{are_short};
+ghost use Rattle.options.specs.Filters.{are_short, selects as spec_selects};
 ghost use Rattle.options.specs.Slave.{view};
 ghost use Rattle.rmx_media.specs.Streams.{AreInfos, kind_in};
 ghost use Rattle.rmx_media.specs.declared.streams.MuxStream.{MuxStream as Stream};
@@ -10,7 +10,7 @@ ghost use Rattle.tee.specs.Route.{IsRoute};
 
 use bsf_chain::Chain;
 use bytes::Bytes;
-use options::{SlavePlan, joined_chain, selects};
+use options::{SlavePlan, Spec, joined_chain, selects};
 use playlist::SegOptions;
 use rmx_media::{Format, Items, Kind, MuxStream, MuxStreams, NoMemory, StreamInfo};
 use std::alloc::Global;
@@ -57,11 +57,23 @@ fn file_format(format: Format, seg: &Option<SegOptions>) -> Format
     }
 }
 
+fn is_selected(specs: &[Spec], number: u32, kind: Kind) -> bool
+    ensures { result ≡ list_any (λ spec. spec_selects spec number kind) specs.now }
+{
+    specs.iter().any(|spec| selects(*spec, number, kind))
+}
+
+fn is_filtered(chains: &[(Spec, Chain)], number: u32, kind: Kind) -> bool
+    ensures { result ≡ list_any (λ chain. spec_selects chain.0 number kind) chains.now }
+{
+    chains.iter().any(|chain| selects(chain.0, number, kind))
+}
+
 // Whether an output takes the stream of that number and kind.
 fn is_taken(plan: &SlavePlan, number: u32, kind: Kind) -> bool
     ensures { result ≡ is_stream_taken (view plan.now) number kind }
 {
-    plan.select.as_slice().iter().any(|spec| selects(*spec, number, kind))
+    is_selected(plan.select.as_slice(), number, kind)
         && takes_kind(file_format(plan.format, &plan.seg), kind)
 }
 
@@ -132,7 +144,7 @@ fn route_of(plan: &SlavePlan, number: u32, kind: Kind) -> Route
         return Route::Skip;
     }
     let chains = plan.chains.as_slice();
-    if !chains.iter().any(|chain| selects(chain.0, number, kind)) {
+    if !is_filtered(chains, number, kind) {
         return Route::Whole;
     }
     match joined_chain(chains, number, kind) {

@@ -5,7 +5,7 @@ mod choice;
 mod fault;
 mod fed;
 mod filter;
-mod slave;
+mod output;
 mod tee;
 
 pub use fault::{TeeFault, TeeRefused};

@@ -6,7 +6,7 @@ ghost use Rattle.tee.specs.Fed.{is_stop};
 ghost use Rattle.tee.specs.Seat.{Seat, IsInput};
 
 use crate::fed::Fed;
-use crate::slave::TeeSlave;
+use crate::output::TeeSlave;
 use rmx_edge::Shelf;
 use rmx_media::{Items, NoMemory, Packet, StreamInfo};
 use slave::SlaveEnd;
