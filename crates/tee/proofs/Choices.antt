@@ -177,3 +177,8 @@ sound_at (v ∷ a ∷ x ∷ xs) n d i lt = absurd i
 pub kind_taken : (b : Bool) (k : Kind) {found : Option Kind} → b ≡ true → found ≡ kind_if b k → found ≡ Some k
 kind_taken true k e f = f
 kind_taken false k e f = absurd cc
+
+pub some_at : (infos : List StreamInfo) (m k n : ℕ) (d : StreamInfo) → n ≡ m + k → k < length infos → kind_in (numbered_from m infos) n ≡ Some (get_or infos k d).kind
+some_at [] m k n d e lt = absurd (omega arith)
+some_at (x ∷ xs) m zero n d e lt = let same : (m == n) ≡ true = grind (arith, nat_tests) in rw same refl
+some_at (x ∷ xs) m (suc k) n d e lt = behind true m n x (numbered_from (m + 1) xs) _ (other m n (omega arith)) (some_at xs (m + 1) k n d (omega arith) (omega arith))

@@ -1,3 +1,6 @@
 pub mod Choices
 pub mod Routes
 pub mod Outputs
+pub mod Slots
+pub mod Over
+pub mod Watching

@@ -1,5 +1,5 @@
 -- What an output leaves of a packet fits its files.
-use Rattle.std.proofs.Common.{◌≡◌, ◌<◌, ◌≤◌, ◌+◌, ℕ, List, [], ◌∷◌, length, Bool, true, false, cond, Option, Some, None, Result, Ok, Err, refl, sym, ◌∙◌, ap, subst, arith, inl, inr, rules}
+use Rattle.std.proofs.Common.{◌≡◌, ◌<◌, ◌≤◌, ◌+◌, ℕ, List, [], ◌∷◌, length, get_or, Bool, true, false, cond, Option, Some, None, Result, Ok, Err, refl, sym, ◌∙◌, ap, subst, arith, inl, inr, rules}
 use Rattle.std.specs.Prelude.{IfOk, IfSome, ◌==◌, ◌⊎◌}
 use Rattle.std.specs.List.{list_any}
 use Rattle.std.specs.Option.{option_map, option_and_then}
@@ -25,7 +25,7 @@ use Rattle.rmx_media.specs.declared.streams.MuxStreams.{MuxStreams}
 use Rattle.rmx_media.specs.declared.streams.StreamInfo.{StreamInfo}
 use Rattle.rmx_media.specs.Config.{kind_of}
 use Rattle.rmx_media.specs.Fits.{Fits, FitsButDts, Suits}
-use Rattle.rmx_media.specs.Streams.{AreInfos, kind_in}
+use Rattle.rmx_media.specs.Streams.{AreInfos, IsSound, kind_in}
 use Rattle.slave.specs.Calls.{IsBuilt}
 use Rattle.tee.specs.Choice.{choice, chosen_streams, all_streams, numbered_from, takes_kind, file_format}
 use Rattle.tee.specs.Route.{IsRoute, IsLeft, IsPlaced, IsFiltered}
@@ -33,7 +33,7 @@ use Rattle.tee.specs.Seat.{Seat, IsInput}
 use Rattle.tee.specs.declared.choice.Choice.{Choice}
 use Rattle.tee.specs.declared.choice.Route.{Route}
 use Rattle.tee.specs.declared.choice.Route.TheVariants.{Whole}
-use Rattle.tee.proofs.Choices.{taken_from, keepers_for}
+use Rattle.tee.proofs.Choices.{is_one_of, keepers_for, some_at, sound_at, taken_from}
 
 unfiltered_by : (p : Packet) (c : Config) → result_by [] p c ≡ Some p
 unfiltered_by p (Avc config) = refl
@@ -159,3 +159,24 @@ filtered_at infos seat c p (Some q) at i l = record { is_choice = l.is_choice; f
 pub if_ok : {A E : Type 0} (r : Result A E) (P Q : A → Type 0) → ((x : A) → P x → Q x) → IfOk r P → IfOk r Q
 if_ok (Ok x) P Q f h = f x h
 if_ok (Err e) P Q f h = tt
+
+-- the stream of a packet of the input
+pub record InfoOf (infos : List StreamInfo) (p : Packet) (info : StreamInfo) : Type 0 where
+  pub sound : IsSound info
+  pub kind : kind_of p.config ≡ info.kind
+
+pub number_of : (infos : List StreamInfo) (p : Packet) → IsInput infos p → p.stream < length infos
+number_of infos p i =
+    let found : kind_in (all_streams infos) p.stream ≡ Some (kind_of p.config) = subst (λ (xs : List MuxStream). kind_in xs p.stream ≡ Some (kind_of p.config)) i.all i.fits.all.stream in
+    let within = is_one_of infos 0 p.stream (kind_of p.config) found in
+    omega (arith, within.1)
+
+pub info_of : (infos : List StreamInfo) (p : Packet) (info : StreamInfo) → AreInfos infos → IsInput infos p → info ≡ get_or infos p.stream info → InfoOf infos p info
+info_of infos p info are i e =
+    let lt = number_of infos p i in
+    let found : kind_in (all_streams infos) p.stream ≡ Some (kind_of p.config) = subst (λ (xs : List MuxStream). kind_in xs p.stream ≡ Some (kind_of p.config)) i.all i.fits.all.stream in
+    let at : kind_in (all_streams infos) p.stream ≡ Some (get_or infos p.stream info).kind = some_at infos 0 p.stream p.stream info (omega arith) lt in
+    record {
+      sound = subst IsSound (sym e) (sound_at infos p.stream info are lt);
+      kind = some_of (kind_of p.config) (get_or infos p.stream info).kind (sym found ∙ at) ∙ ap (λ (x : StreamInfo). x.kind) (sym e);
+    }

@@ -7,8 +7,8 @@ use Rattle.fifo_core.specs.declared.types.EndState.TheVariants as ends
 -- one that aborts is dead, or every one is
 abbrev pub any_both : List Bool → List Bool → Bool
 any_both [] bs = false
-any_both (a ∷ as) [] = false
-any_both (a ∷ as) (b ∷ bs) = (a && b) || any_both as bs
+any_both (a ∷ more) [] = false
+any_both (a ∷ more) (b ∷ bs) = (a && b) || any_both more bs
 
 abbrev pub all_of : List Bool → Bool
 all_of bs = list_all (λ b. b) bs
@@ -29,12 +29,16 @@ is_want ends.NoMemory = true
 -- the first output that aborts and failed, counted from that number on
 abbrev pub first_failed_from : ℕ → List Bool → List EndState → Option ℕ
 first_failed_from n [] states = None
-first_failed_from n (a ∷ as) [] = None
-first_failed_from n (a ∷ as) (s ∷ ss) = if a && is_failed s then Some n else first_failed_from (n + 1) as ss
+first_failed_from n (a ∷ more) [] = None
+first_failed_from n (a ∷ more) (s ∷ ss) = if a && is_failed s then Some n else first_failed_from (n + 1) more ss
+
+abbrev pub or_first : Option ℕ → Bool → Option ℕ
+or_first None all = if all then Some 0 else None
+or_first (Some k) all = Some k
 
 -- the output whose failure ends the run: the first that aborts, or 0 where every one failed and none aborts
 abbrev pub failed_slave : List Bool → List EndState → Option ℕ
-failed_slave aborts states = elim first_failed_from 0 aborts states [ Some k ↦ Some k | None ↦ if list_all is_failed states then Some 0 else None ]
+failed_slave aborts states = or_first (first_failed_from 0 aborts states) (list_all is_failed states)
 
 -- memory was wanted by an output
 abbrev pub any_want : List EndState → Bool

@@ -29,6 +29,12 @@ stopped_by (Some n) u = nat_le n u
 abbrev pub dead_in : {S : Type 0} {ghosts : Ghosts S} → Tee S ghosts → ℕ → Bool
 dead_in tee u = stopped_by tee.stopped u
 
+-- what is known after so many packets, where the run is over or not
+abbrev pub stopped_with : Option ℕ → Bool → ℕ → Option ℕ
+stopped_with None true n = Some n
+stopped_with None false n = None
+stopped_with (Some k) over n = Some k
+
 -- none, or so many at most
 abbrev pub IsWithin : Option ℕ → ℕ → Type 0
 IsWithin None n = Unit {0}

@@ -45,3 +45,12 @@ pub record SitsOn {S : Type 0} {ghosts : Ghosts S} (state : S → ShelfState) (i
   pub later : History
   pub goes_on : history ≡ later ++ before
   pub stays_dead : is_dead seat before ≡ true → is_dead seat history ≡ true
+
+-- each of the outputs
+abbrev pub AllSitOn : {S : Type 0} {ghosts : Ghosts S} → (S → ShelfState) → List StreamInfo → List Packet → List Seat → List History → List (TeeSlave S ghosts) → Type 0
+AllSitOn state infos given [] [] [] = Unit {0}
+AllSitOn state infos given (s ∷ ss) (h ∷ hs) (t ∷ ts) = SitsOn state infos given s h t × AllSitOn state infos given ss hs ts
+AllSitOn state infos given [] [] (t ∷ ts) = ⊥
+AllSitOn state infos given [] (h ∷ hs) ts = ⊥
+AllSitOn state infos given (s ∷ ss) [] ts = ⊥
+AllSitOn state infos given (s ∷ ss) (h ∷ hs) [] = ⊥

@@ -27,6 +27,12 @@ pub enum Filtered {
     Dropped,
 }
 
+impl Default for Filtered {
+    fn default() -> Filtered {
+        Filtered::Dropped
+    }
+}
+
 impl Route {
     // What is written of a packet of a stream.
     fn filter(&self, alloc: Global, info: &StreamInfo, p: &Packet) -> Result<Filtered, NoMemory>

@@ -4,6 +4,7 @@
 mod choice;
 mod fault;
 mod fed;
+mod feeding;
 mod filter;
 mod output;
 mod tee;
