@@ -4,3 +4,5 @@ pub mod Outputs
 pub mod Slots
 pub mod Over
 pub mod Watching
+pub mod Finish
+pub mod Opening

@@ -175,15 +175,16 @@ watch_on seats given p hs gs count stopped w on stood =
     let counted : count ≡ length given = w.count_is in
     let within : IsWithin (stopped_with stopped over (length given + 1)) (length given + 1) = within_by stopped over (length given) w.within in
     let now : is_some (stopped_with stopped over (length given + 1)) ≡ over =
-        now_by stopped (stops (aborts seats) (deads seats hs)) over (length given + 1) w.now (stays_over seats hs gs on) in
+    now_by stopped (stops (aborts seats) (deads seats hs)) over (length given + 1) w.now (stays_over seats hs gs on) in
     rw counted record {
       count_is = omega arith;
       within = rw len within;
       now = now;
       stood = λ u le. elim (last_or u (length given) (omega arith)) [
-          inl before ↦ let st = w.stood u before in
-              (st.0, all_still given p u seats hs gs st.0 before on st.1, known_before stopped over (length given + 1) u (omega arith) ∙ st.2)
-        | inr last ↦ (deads seats gs, rw last stood, rw last (known_now (stopped_with stopped over (length given + 1)) (length given + 1) within ∙ now)) ];
+        | inl before ↦ let st = w.stood u before in
+            (st.0, all_still given p u seats hs gs st.0 before on st.1, known_before stopped over (length given + 1) u (omega arith) ∙ st.2)
+        | inr last ↦ (deads seats gs, rw last stood, rw last (known_now (stopped_with stopped over (length given + 1)) (length given + 1) within ∙ now))
+      ];
     }
 
 -- all outputs got one packet more
@@ -233,3 +234,27 @@ fed_on {S} {ghosts} state old new seats given p stop k infos on len count stoppe
       λ u le. rw is (known_before old.stopped (stops (aborts seats) (deads seats w.histories)) (old.given + 1) u (omega arith)),
       (let within : IsWithin new.stopped (length given + 1) = rw whole at watches.within in known_now new.stopped (length given + 1) within ∙ sym told),
     )
+
+within_first : (over : Bool) → IsWithin (stopped_with None over 0) 0
+within_first true = omega arith
+within_first false = tt
+
+now_first : (over : Bool) → is_some (stopped_with None over 0) ≡ over
+now_first true = refl
+now_first false = refl
+
+-- before the first packet
+pub watch_first : {S : Type 0} {ghosts : Ghosts S} (state : S → ShelfState) (infos : List StreamInfo) (ss : List Seat) (hs : List History) (ts : List (TeeSlave S ghosts)) (stopped : Option ℕ) → AllSit state infos [] ss hs ts
+    → stopped ≡ stopped_with None (stops (aborts ss) (deads ss hs)) 0 → Watches ss [] hs 0 stopped
+watch_first state infos ss hs ts stopped a e =
+    let over = stops (aborts ss) (deads ss hs) in
+    let within : IsWithin stopped 0 = rw e (within_first over) in
+    let now : is_some stopped ≡ over = rw e (now_first over) in
+    record {
+      count_is = refl;
+      within = within;
+      now = now;
+      stood = λ u le.
+          let none : u ≡ 0 = omega arith in
+          (deads ss hs, stand_now state infos [] u ss hs ts none a, rw none (known_now stopped 0 within ∙ now));
+    }

@@ -1,6 +1,8 @@
 pub mod Choice
+pub mod Draft
 pub mod Ends
 pub mod Fails
+pub mod Fault
 pub mod Fed
 pub mod Keeps
 pub mod Route

@@ -7,6 +7,8 @@ use Rattle.rmx_media.specs.declared.packet.Packet.{Packet}
 use Rattle.rmx_media.specs.declared.streams.StreamInfo.{StreamInfo}
 use Rattle.slave.specs.Job.{view_of}
 use Rattle.slave.specs.Table.{Keeps}
+use Rattle.slave.specs.End.{EndedBy, IsUnclosed, end_view}
+use Rattle.slave.specs.declared.job.SlaveEnd.{SlaveEnd}
 use Rattle.tee.specs.Route.{IsPlaced}
 use Rattle.tee.specs.Seat.{Seat, chosen}
 use Rattle.tee.specs.declared.output.TeeSlave.{TeeSlave}
@@ -54,3 +56,16 @@ AllSitOn state infos given [] [] (t ∷ ts) = ⊥
 AllSitOn state infos given [] (h ∷ hs) ts = ⊥
 AllSitOn state infos given (s ∷ ss) [] ts = ⊥
 AllSitOn state infos given (s ∷ ss) (h ∷ hs) [] = ⊥
+
+-- the output at a seat ended with that history; given up it isn't closed
+pub record EndsAt {S : Type 0} (state : S → ShelfState) (given : List Packet) (seat : Seat) (history : History) (e : SlaveEnd S) : Type 0 where
+  pub ended : EndedBy seat.origin seat.slave.fifo (chosen seat given) history (end_view state e)
+  pub given_up : is_dead seat history ≡ true → IsUnclosed e.state
+
+abbrev pub AllEndAt : {S : Type 0} → (S → ShelfState) → List Packet → List Seat → List History → List (SlaveEnd S) → Type 0
+AllEndAt state given [] [] [] = Unit {0}
+AllEndAt state given (s ∷ ss) (h ∷ hs) (e ∷ es) = EndsAt state given s h e × AllEndAt state given ss hs es
+AllEndAt state given [] [] (e ∷ es) = ⊥
+AllEndAt state given [] (h ∷ hs) es = ⊥
+AllEndAt state given (s ∷ ss) [] es = ⊥
+AllEndAt state given (s ∷ ss) (h ∷ hs) [] = ⊥

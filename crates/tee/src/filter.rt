@@ -56,12 +56,7 @@ impl Route {
 
 impl Choice {
     /// What is written of a packet of a stream.
-    pub fn filter(
-        &self,
-        alloc: Global,
-        info: &StreamInfo,
-        p: &Packet,
-    ) -> Result<Filtered, NoMemory>
+    pub fn filter(&self, alloc: Global, info: &StreamInfo, p: &Packet) -> Result<Filtered, NoMemory>
         requires info { IsSound info.now }
         requires kind { kind_of p.now.config ≡ info.now.kind }
         requires fits { (all : MuxStreams) × Fits Flv all p.now }

@@ -2,10 +2,13 @@
 #![tactic(auto)]
 
 mod choice;
+mod draft;
+mod ending;
 mod fault;
 mod fed;
 mod feeding;
 mod filter;
+mod making;
 mod output;
 mod tee;
 

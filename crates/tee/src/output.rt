@@ -1,23 +1,20 @@
 // One output of a tee.
-ghost use Rattle.std.specs.Prelude.{◌≡◌, ◌<◌, ◌++◌, ◌∷◌, [], ◌^◌, List, length, Some, IfOk};
+ghost use Rattle.std.specs.Prelude.{◌≡◌, ◌<◌, ◌++◌, ◌∷◌, [], ◌^◌, List, ℕ, Option, length, Some, false};
 ghost use Rattle.fifo_core.specs.History.{History};
-ghost use Rattle.rmx_media.specs.Config.{kind_of};
+ghost use Rattle.options.specs.Slave.{Slave};
 ghost use Rattle.rmx_media.specs.Fits.{Fits};
-ghost use Rattle.rmx_media.specs.Streams.{AreInfos, IsSound};
-ghost use Rattle.rmx_media.specs.declared.packet.Format.TheVariants.{Flv};
 ghost use Rattle.rmx_media.specs.declared.packet.Packet.{Packet};
-ghost use Rattle.rmx_media.specs.declared.streams.MuxStreams.{MuxStreams};
 ghost use Rattle.rmx_media.specs.declared.streams.StreamInfo.{StreamInfo as Info};
 ghost use Rattle.tee.specs.Choice.{choice as choice_by};
 ghost use Rattle.tee.specs.Route.{IsFiltered, written};
-ghost use Rattle.tee.specs.Seat.{Seat, IsInput};
+ghost use Rattle.tee.specs.Seat.{Seat};
 
 use crate::choice::Choice;
+use crate::draft::Draft;
 use crate::filter::Filtered;
 use rmx_edge::Shelf;
-use rmx_media::{NoMemory, Packet, StreamInfo};
+use rmx_media::Packet;
 use slave::{SlaveEnd, SlaveJob};
-use std::alloc::Global;
 
 /// An output, and what it takes.
 #[derive(Drop)]
@@ -29,8 +26,37 @@ pub struct TeeSlave<S: Shelf> {
 }
 
 impl<S: Shelf> TeeSlave<S> {
-    ghost use Rattle.tee.specs.Sits.{Sits, SitsOn, is_dead as is_given_up};
-    ghost use Rattle.slave.specs.End.{EndedBy, IsUnclosed, end_view};
+    ghost use Rattle.tee.specs.Draft.{IsDraft, IsOpen};
+    ghost use Rattle.tee.specs.Sits.{EndsAt, Sits, SitsOn};
+
+    /// Opens an output on a shelf.
+    pub fn open(draft: Draft, shelf: S) -> TeeSlave<S>
+        requires idle { (S.state shelf).writing ≡ false }
+        requires ready { (infos : List Info) × (script : Option (List ℕ)) × (s : Slave) × IsDraft infos script s draft }
+        ensures { (infos : List Info) (script : Option (List ℕ)) (s : Slave) → IsDraft infos script s draft → IsOpen S.state infos script s shelf result }
+    {
+        let Draft { kit, choice } = draft;
+        let mut job = SlaveJob::with_kit(kit, shelf);
+        job.start();
+        TeeSlave {
+            job,
+            count: 0,
+            choice,
+        }
+    }
+
+    /// Ends it.
+    pub fn finish(self) -> SlaveEnd<S>
+        requires ready { (infos : List Info) × (given : List Packet) × (seat : Seat) × (history : History) × Sits S.state infos given seat history self }
+        ensures { (infos : List Info) (given : List Packet) (seat : Seat) (history : History) → Sits S.state infos given seat history self → EndsAt S.state given seat history result }
+    {
+        let TeeSlave {
+            job,
+            count: _,
+            choice: _,
+        } = self;
+        job.finish_direct()
+    }
 
     // Writes a packet that it takes.
     fn write(&mut self, p: &Packet)

@@ -1,19 +1,33 @@
 // All outputs of a run.
-ghost use Rattle.std.specs.Prelude.{◌≡◌, ◌≤◌, ◌<◌, ◌+◌, ◌++◌, ◌∷◌, [], ◌^◌, ℕ, true, false, length, List, IfOk, OnErr, is_some};
+ghost use Rattle.std.specs.Prelude.{◌≡◌, ◌≤◌, ◌<◌, ◌+◌, ◌++◌, ◌∷◌, [], ◌^◌, ℕ, true, false, length, map, option_map, All, List, Option, None, Some, IfErr, IfOk, IfSome, OnErr, is_some};
+ghost use Rattle.std.specs.List.{AllZip};
 ghost use Rattle.fifo_core.specs.History.{History};
 ghost use Rattle.rmx_media.specs.declared.packet.Packet.{Packet};
 ghost use Rattle.rmx_media.specs.declared.streams.StreamInfo.{StreamInfo as Info};
-ghost use Rattle.tee.specs.Fails.{stops};
+ghost use Rattle.options.specs.Slave.{Slave, view};
+ghost use Rattle.options.specs.Valid.{IsValid};
+ghost use Rattle.rmx_media.specs.Streams.{AreInfos, IsScript};
+ghost use Rattle.slave.specs.Calls.{IsBuilt};
+ghost use Rattle.slave.specs.End.{end_view};
+ghost use Rattle.tee.specs.Ends.{EndsAll};
+ghost use Rattle.tee.specs.Fails.{any_want, failed_slave, stops};
+ghost use Rattle.tee.specs.Fault.{none_in};
 ghost use Rattle.tee.specs.Fed.{is_stop};
-ghost use Rattle.tee.specs.Seat.{Seat, IsInput, aborts};
+ghost use Rattle.tee.specs.Seat.{AreSeats, Seat, IsInput, aborts, first_without};
 ghost use Rattle.tee.specs.Route.{AllFiltered};
 ghost use Rattle.tee.specs.Sits.{AllSit, AllSitOn, deads};
 
+use crate::draft::Draft;
+use crate::ending::end_all;
+use crate::fault::{TeeFault, TeeRefused};
 use crate::fed::Fed;
 use crate::feeding::{filter_all, give_all, is_over};
 use crate::filter::Filtered;
+use crate::making::{Room, drafts_of, open_all};
 use crate::output::TeeSlave;
 use arrayvec::ArrayVec;
+use bytes::Bytes;
+use options::SlavePlan;
 use rmx_edge::Shelf;
 use rmx_media::{Items, NoMemory, Packet, StreamInfo};
 use slave::SlaveEnd;
@@ -110,5 +124,109 @@ impl<S: Shelf> Tee<S> {
         )?;
         self.give(p, filtered.as_slice());
         Ok(self.count())
+    }
+}
+
+impl<S: Shelf + Drop> Tee<S> {
+    ghost use Rattle.tee.specs.Draft.{IsDraft};
+    ghost use Rattle.tee.specs.Keeps.{Keeps, dead_in, infos_of, spare_of};
+
+    /// A tee of the outputs of these plans. Output k gets shelf k, and all memory is taken before the first call of a shelf.
+    pub fn new(
+        alloc: Global,
+        slaves: &[SlavePlan],
+        infos: &[StreamInfo],
+        script: Option<&Bytes>,
+        shelves: Vec<S>,
+    ) -> Result<Tee<S>, TeeRefused<S>>
+        requires room { length slaves.now ≤ length shelves.items }
+        requires few { length slaves.now ≤ 16 }
+        requires idle { All (λ s. (S.state s).writing ≡ false) shelves.items }
+        requires valid { All IsValid (map view slaves.now) }
+        requires built { All (λ s. IsBuilt s.format) (map view slaves.now) }
+        requires infos { AreInfos infos.now }
+        requires script { IsScript (option_map (λ body. body.now) script) }
+        ensures made { IfOk result (λ t. (seats : List Seat)
+            × AreSeats S.state infos.now (option_map (λ body. body.now) script.entry) (map view slaves.now) shelves.items seats (spare_of t) × Keeps S.state t seats []) }
+        ensures infos { IfOk result (λ t. infos_of t ≡ infos.now) }
+        ensures taken { IfOk result (λ t. first_without infos.now (map view slaves.now) ≡ None) }
+        ensures back { IfErr result (λ r. r.shelves.items ≡ shelves.items) }
+        ensures none { IfErr result (λ r. IfSome (none_in r.fault) (λ slave. first_without infos.now (map view slaves.now) ≡ Some slave)) }
+    {
+        let drafts = match drafts_of(alloc, slaves, infos, script) {
+            Ok(drafts) => drafts,
+            Err(fault) => return Err(TeeRefused { fault, shelves }),
+        };
+        match Room::new(alloc, infos, drafts.len()) {
+            Ok(room) => Ok(Tee::open(alloc, drafts, room, shelves)),
+            Err(_) => Err(TeeRefused {
+                fault: TeeFault::NoMemory,
+                shelves,
+            }),
+        }
+    }
+
+    // Opens the outputs.
+    fn open(alloc: Global, drafts: Vec<Draft>, room: Room<S>, shelves: Vec<S>) -> Tee<S>
+        requires drafts { (script : Option (List ℕ)) × (plans : List Slave) × AllZip (IsDraft room.infos.items script) plans drafts.items }
+        requires infos { AreInfos room.infos.items }
+        requires few { length drafts.items ≤ 16 }
+        requires enough { length drafts.items ≤ length shelves.items }
+        requires idle { All (λ s. (S.state s).writing ≡ false) shelves.items }
+        requires none { room.slaves.items ≡ [] }
+        requires places { length drafts.items ≤ room.slaves.spare }
+        requires none_ended { room.ends.items ≡ [] }
+        requires end_places { length drafts.items ≤ room.ends.spare }
+        ensures made { (script : Option (List ℕ)) (plans : List Slave) → AllZip (IsDraft room.infos.items script) plans drafts.items
+            → (seats : List Seat) × AreSeats S.state room.infos.items script plans shelves.items seats (spare_of result) × Keeps S.state result seats [] }
+        ensures infos { infos_of result ≡ room.infos.items }
+    {
+        let Room {
+            slaves,
+            ends,
+            infos,
+        } = room;
+        let (slaves, spare) = open_all(drafts, Items::from_vec(shelves), slaves);
+        let slaves = slaves.into_vec();
+        let stopped = if is_over(slaves.as_slice()) {
+            Some(0)
+        } else {
+            None
+        };
+        Tee {
+            alloc,
+            slaves,
+            infos,
+            given: 0,
+            stopped,
+            spare,
+            ends,
+        }
+    }
+
+    /// Ends all outputs.
+    pub fn finish(self) -> TeeEnd<S>
+        requires ready { (seats : List Seat) × (given : List Packet) × Keeps S.state self seats given }
+        ensures ends { (seats : List Seat) (given : List Packet) → Keeps S.state self seats given → EndsAll seats given (dead_in self) (map (end_view S.state) result.ends.items) }
+        // Where an output that aborts, or every one, was dead and no output wanted memory, one failed that ends the run.
+        ensures failed { (u : ℕ) → dead_in self u ≡ true → (seats : List Seat) (given : List Packet) → Keeps S.state self seats given
+            → any_want (map (λ e. e.state) result.ends.items) ≡ false → is_some (failed_slave (aborts seats) (map (λ e. e.state) result.ends.items)) ≡ true }
+        ensures spare { result.spare.items ≡ spare_of self }
+        ensures short { result.short ≡ false }
+    {
+        let Tee {
+            alloc: _,
+            slaves,
+            infos: _,
+            given: _,
+            stopped: _,
+            spare,
+            ends,
+        } = self;
+        TeeEnd {
+            ends: end_all(slaves, ends),
+            spare,
+            short: false,
+        }
     }
 }

@@ -13,7 +13,7 @@ give-requires g c =
     let r = c.requires.ready in
     let at = c.loop-place in
     let n = next_here g.S.Shelf.state r.0 r.1 c.args.p.now r.2 r.3 at.slaves c.args.filtered.now at.place c.index-slaves-place.result c.index-filtered-place.result
-        (at.invariant r.0 r.1 r.2 r.3 r.4 r.5) r.5 (omega arith) c.index-filtered-place.is in
+    (at.invariant r.0 r.1 r.2 r.3 r.4 r.5) r.5 (omega arith) c.index-filtered-place.is in
     record { ready = (r.0, r.1, n.0, n.1, n.2, n.3, r.6) }
 
 pub loop-place-preserved : goal.loop-place-preserved

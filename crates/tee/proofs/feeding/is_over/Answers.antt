@@ -17,8 +17,9 @@ loop-slave-preserved g c = λ infos given seats histories a.
     let t = c.slave-item.result in
     let st = step_at g.S.Shelf.state infos given seats histories at.all c.args.slaves.now at.slave-index t (at.invariant infos given seats histories a) (omega arith) c.slave-item.is in
     elim c.if-not-is_dead.branch [
-      then-not-is_dead w ↦ rw w.all-is (next_lives g.S.Shelf.state infos given seats histories at.all t _ st (subst (λ (b : Bool). Says g.S.Shelf.state infos given t b) w.if-not-is_dead.true c.is_dead.ensures))
-    | else-not-is_dead+else-slave w ↦ rw w.all-is (next_dead g.S.Shelf.state infos given seats histories at.all t _ st (subst (λ (b : Bool). Says g.S.Shelf.state infos given t b) w.if-not-is_dead.false c.is_dead.ensures) w.if-slave.false) ]
+      | then-not-is_dead w ↦ rw w.all-is (next_lives g.S.Shelf.state infos given seats histories at.all t _ st (subst (λ (b : Bool). Says g.S.Shelf.state infos given t b) w.if-not-is_dead.true c.is_dead.ensures))
+      | else-not-is_dead+else-slave w ↦ rw w.all-is (next_dead g.S.Shelf.state infos given seats histories at.all t _ st (subst (λ (b : Bool). Says g.S.Shelf.state infos given t b) w.if-not-is_dead.false c.is_dead.ensures) w.if-slave.false)
+    ]
 
 pub returns : goal.returns
 returns g c = λ infos given seats histories a.

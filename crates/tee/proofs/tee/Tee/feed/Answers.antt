@@ -57,7 +57,7 @@ returns-clause-fed g c = λ seats given k.
     (rw c.count.ensures.slaves c.give.ensures.len)
     (c.count.ensures.given ∙ ap (λ (n : ℕ). n + 1) c.give.ensures.given)
     (λ hs now.
-        c.count.ensures.stopped infos (given ++ p ∷ []) seats hs (rw (← c.count.ensures.slaves) now)
-        ∙ rw (c.give.ensures.stopped, c.give.ensures.given) refl)
+    c.count.ensures.stopped infos (given ++ p ∷ []) seats hs (rw (← c.count.ensures.slaves) now)
+    ∙ rw (c.give.ensures.stopped, c.give.ensures.given) refl)
     (c.count.ensures.ends ∙ c.give.ensures.ends)
     c.count.ensures.fed
