@@ -100,6 +100,7 @@ ended_closed {out = out} v e k b shut is_b told st =
         notes = rw told.faults t.notes;
         inline = told.inline;
         sound = told_sound out.shelf told t.sound;
+        safe = λ x. told.faults ∙ t.safe x;
         wants = rw (same_want_counts told) t.wants;
         excuse = λ x none. rw (same_want_counts told) (t.excuse (want_shown (wanted k.history) (sym st ∙ x)) (sym told.faults ∙ none));
       },
@@ -115,6 +116,11 @@ wants_at : {out : Origin} {before : List Packet} (b : Answer) (v w : JobView) �
 wants_at answer.Done v w c e = absurd (cc e)
 wants_at answer.Fault v w c e = absurd (cc e)
 wants_at answer.NoMemory v w c e = c.made.4
+
+no_note : {out : Origin} {before : List Packet} (b : Answer) (v w : JobView) → Closes out before v b w → v.faults ≡ [] → (b ≡ answer.Fault → ⊥) → w.faults ≡ []
+no_note answer.Done v w c none fine = c.made.2 ∙ none
+no_note answer.Fault v w c none fine = absurd (fine refl)
+no_note answer.NoMemory v w c none fine = c.made.2 ∙ none
 
 module _ {out : Origin} {o : FifoOptions} {L : List Packet} (v w : JobView) (e : EndView) (k : Keeps out o L v) (u : wanted k.history ≡ false) (live : mode_of o k.history ≡ Live)
     (told : EndTells w e) where
@@ -160,6 +166,7 @@ module _ {out : Origin} {o : FifoOptions} {L : List Packet} (v w : JobView) (e :
           notes = rw told.faults ns;
           inline = told.inline;
           sound = told_sound out.shelf told (sound_then out.shelf v.shelf w.shelf t.sound c.sound);
+          safe = λ x. told.faults ∙ no_note b v w c (t.safe x) (c.safe (t.sound x).0);
           wants = rw (same_want_counts told) (omega (arith, t.wants, c.want_counts));
           excuse = λ y none. rw (same_want_counts told)
               (rose_later out.shelf.wants v.shelf.wants w.shelf.wants t.wants (wants_at b v w c (end_wanted b k.history (sym st ∙ y))));

@@ -9,6 +9,7 @@ pub mod Lists
 pub mod Room
 pub mod Past
 pub mod Rows
+pub mod Sound
 pub mod Start
 pub mod Steps
 pub mod Turns

@@ -85,8 +85,9 @@ pub record Ended (g : Origin) (o : FifoOptions) (L : List Packet) (e : EndView) 
   pub packets : flat_map row_packets rows ≡ written_of L (fates_of history)
   pub notes : EndNotes history end_answer e.faults
   pub inline : e.inline ≡ false
-  -- a sound shelf had no fault
+  -- a sound shelf had no fault, and none is noted
   pub sound : g.shelf.sound ≡ true → e.shelf.faults ≡ g.shelf.faults
+  pub safe : g.shelf.sound ≡ true → e.faults ≡ []
   pub wants : g.shelf.wants ≤ e.shelf.wants
   pub excuse : e.state ≡ ends.NoMemory → e.faults ≡ [] → Rose g.shelf.wants e.shelf.wants
 
@@ -102,3 +103,8 @@ IsUnclosed s = (s ≡ ends.Failed) ⊎ (s ≡ ends.NoMemory)
 abbrev pub GivenUpStaysSo : Type 0
 GivenUpStaysSo = (g : Origin) (o : FifoOptions) (L : List Packet) (e : EndView) (k : Ended g o L e) (later part : History)
     → k.history ≡ later ++ part → mode_is_dead (mode_of o part) ≡ true → (mode_is_dead (mode_of o k.history) ≡ true) × IsUnclosed e.state
+
+-- on a sound shelf an output isn't given up, and it is closed unless memory was wanted
+abbrev pub SoundNeverFails : Type 0
+SoundNeverFails = (g : Origin) (o : FifoOptions) (L : List Packet) (e : EndView) (k : Ended g o L e)
+    → g.shelf.sound ≡ true → (mode_is_dead (mode_of o k.history) ≡ false) × (e.state ≡ ends.Failed → ⊥)

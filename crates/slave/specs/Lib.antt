@@ -10,3 +10,4 @@ pub mod Prepared
 pub mod Runs
 pub mod Sample
 pub mod Table
+pub mod Watched

@@ -9,10 +9,11 @@ ghost use Rattle.rmx_media.specs.Streams.{CanMux};
 ghost use Rattle.rmx_media.specs.declared.packet.Format.{Format};
 ghost use Rattle.rmx_media.specs.declared.packet.Packet.{Packet};
 ghost use Rattle.rmx_media.specs.declared.streams.MuxStreams.{MuxStreams};
-ghost use Rattle.slave.specs.Calls.{IsBuilt, MuxAfter};
+ghost use Rattle.slave.specs.Calls.{IsBuilt};
 ghost use Rattle.slave.specs.Origin.{Origin, facts_of, session_name as session_in_name};
 ghost use Rattle.slave.specs.Runs.{Joins};
-ghost use Rattle.slave.specs.Job.{ClosesLast, is_done as is_answer_done};
+ghost use Rattle.slave.specs.Job.{ClosesLast, WriterAfter, is_done as is_answer_done};
+ghost use Rattle.slave.specs.Watched.{inner as watched};
 ghost use Rattle.fifo_core.specs.declared.types.Answer.TheVariants as answer;
 
 use crate::kit::SlaveKit;
@@ -21,6 +22,7 @@ use crate::name::session_name;
 use crate::places::Places;
 use crate::records::{FaultAt, FaultNote, Run, SessionNote};
 use crate::runs::{add_fate, joins};
+use crate::watched::Watched;
 use arrayvec::ArrayString;
 use fifo_core::{Action, After, Answer, EndState, Fate, FifoOptions, FifoState, PacketFacts};
 use rmx_edge::{Counted, Shelf, ShelfFault};
@@ -30,7 +32,7 @@ use std::alloc::Global;
 /// An output: its muxer and its shelf, the fate machine, and what is recorded of both.
 #[derive(Drop)]
 pub struct SlaveJob<S: Shelf> {
-    shelf: Counted<S>,
+    shelf: Watched<Counted<S>>,
     name: String,
     video: Option<u32>,
     mux: Mux,
@@ -104,7 +106,7 @@ impl<S: Shelf> SlaveJob<S> {
             faults,
         } = kit;
         SlaveJob {
-            shelf: Counted::new(shelf),
+            shelf: Watched::new(Counted::new(shelf)),
             name,
             video,
             mux,
@@ -155,7 +157,7 @@ impl<S: Shelf> SlaveJob<S> {
         requires writing { (view_of S.state self.old).shelf.writing ≡ true }
         requires place { 1 ≤ (view_of S.state self.old).fault_places }
         requires fits { (g : Origin) × KitOf g (view_of S.state self.old).kit × Takes g p.now }
-        ensures { (g : Origin) (before : List Packet) → KitOf g (view_of S.state self.old).kit → MuxAfter g before (view_of S.state self.old).kit.mux → Takes g p.now
+        ensures { (g : Origin) (before : List Packet) → KitOf g (view_of S.state self.old).kit → WriterAfter g before (view_of S.state self.old).kit.writer → Takes g p.now
             → Puts g before p.now (FaultAt.Put index) (view_of S.state self.old) result (view_of S.state self.new) }
     {
         let before = self.shelf.fault_count();
@@ -386,7 +388,7 @@ impl<S: Shelf> SlaveJob<S> {
         requires place { 1 ≤ (view_of S.state self.old).fault_places }
         requires begun { 0 < length (view_of S.state self.old).sessions }
         requires kit { (g : Origin) × KitOf g (view_of S.state self.old).kit }
-        ensures { (g : Origin) (before : List Packet) → KitOf g (view_of S.state self.old).kit → MuxAfter g before (view_of S.state self.old).kit.mux
+        ensures { (g : Origin) (before : List Packet) → KitOf g (view_of S.state self.old).kit → WriterAfter g before (view_of S.state self.old).kit.writer
             → Closes g before (view_of S.state self.old) result (view_of S.state self.new) }
     {
         let before = self.shelf.fault_count();
@@ -428,15 +430,15 @@ impl<S: Shelf> SlaveJob<S> {
     }
 
     fn into_end(self, state: EndState) -> SlaveEnd<S>
-        ensures shelf { result.shelf ≡ inner self.shelf }
+        ensures shelf { result.shelf ≡ inner (watched self.shelf) }
         ensures fates { result.fates.items ≡ self.runs.items }
         ensures sessions { result.sessions.items ≡ self.sessions.items }
         ensures faults { result.faults.items ≡ self.faults.items }
         ensures state { result.state ≡ state }
         ensures inline { result.inline ≡ false }
-        ensures bytes { result.bytes ≡ bytes_of self.shelf }
+        ensures bytes { result.bytes ≡ bytes_of (watched self.shelf) }
     {
-        let bytes = self.shelf.bytes();
+        let bytes = self.shelf.shelf().bytes();
         let SlaveJob {
             shelf,
             name: _,
@@ -448,7 +450,7 @@ impl<S: Shelf> SlaveJob<S> {
             faults,
         } = self;
         SlaveEnd {
-            shelf: shelf.into_inner(),
+            shelf: shelf.into_inner().into_inner(),
             fates: runs.into_items(),
             sessions: sessions.into_items(),
             faults: faults.into_items(),

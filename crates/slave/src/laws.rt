@@ -1,6 +1,6 @@
 // What holds of every end of an output.
 ghost use Rattle.slave.specs.Accounts.{EndsMeetAccounts};
-ghost use Rattle.slave.specs.End.{GivenUpStaysSo};
+ghost use Rattle.slave.specs.End.{GivenUpStaysSo, SoundNeverFails};
 ghost use Rattle.slave.specs.Headline.{NoFaultNoLoss};
 
 /// An output whose shelf's counts of faults and wants didn't rise is closed and holds its file over all packets.
@@ -16,4 +16,9 @@ pub fn ends_meet_accounts()
 /// An output that was given up stays so, and it isn't closed at its end.
 pub fn given_up_stays_so()
     ensures { GivenUpStaysSo }
+{}
+
+/// On a sound shelf an output isn't given up, and it is closed unless memory was wanted.
+pub fn sound_never_fails()
+    ensures { SoundNeverFails }
 {}

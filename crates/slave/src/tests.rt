@@ -531,3 +531,38 @@ fn a_flush_is_refused(rt: HostRuntime) -> Result<(), Fail> {
     assert_eq!(rt; end.bytes, 8 + 7 + 8 + 8);
     Ok(())
 }
+
+// The fate of a packet.
+fn fate_in(runs: &[Run], index: u64) -> Option<Fate> {
+    for run in runs {
+        if run.first <= index && index - run.first < run.count {
+            return Some(run.fate);
+        }
+    }
+    None
+}
+
+// Where memory is made to be wanted in this test, all packets from one on have that fate, or there is no end at all.
+#[test]
+fn memory_may_be_wanted(rt: HostRuntime) -> Result<(), Fail> {
+    let shelf = failing(rt.alloc(), &[3, 4], 0)?;
+    let end = written(rt.alloc(), RECOVERS, Kind::Audio, &[0, 23, 46], shelf)?;
+    let mut wanted = false;
+    for (index, fate) in [
+        (0, Fate::Written(0)),
+        (1, Fate::Lost(1)),
+        (2, Fate::Written(2)),
+    ] {
+        let found = fate_in(end.fates.as_slice(), index);
+        wanted = wanted || found == Some(Fate::NoMemory);
+        let right = if wanted { Fate::NoMemory } else { fate };
+        assert_eq!(rt; found, Some(right));
+    }
+    let right = if wanted {
+        EndState::NoMemory
+    } else {
+        EndState::Closed
+    };
+    assert_eq!(rt; end.state, right);
+    Ok(())
+}

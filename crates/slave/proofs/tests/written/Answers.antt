@@ -18,7 +18,7 @@ loop-time-preserved g c =
       k.0,
       k.1,
       k.2 ++ p ∷ [],
-      c.write_direct.ensures k.0 k.1 k.2 k.3 k.4 takes,
+      (c.write_direct.ensures k.0 k.1 k.2 k.3 k.4 takes).keeps,
       omega (arith, length-append k.2 (p ∷ []), k.4),
       omega (arith, k.5),
       k.6,

@@ -13,6 +13,7 @@ returns-in-Ok g c = λ h kit.
         counts = run.faults;
         want_counts = run.wants;
         sound = λ e. (let s = run.sound e in (s.sound, s.faults));
+        safe = λ e x. cc x;
         kit = record { name = kit.name; short = kit.short; counts = kit.counts; video = kit.video; mux = c.in-Ok.ensures.of h kit.mux };
         fifo = refl;
         runs = refl;
@@ -20,7 +21,7 @@ returns-in-Ok g c = λ h kit.
         sessions = refl;
         session_places = refl;
       };
-      mux = λ e. c.in-Ok.ensures.after h kit.mux refl;
+      writer = λ e. record { mux = c.in-Ok.ensures.after h kit.mux refl; flushed = λ some. absurd (some refl) };
     }
 
 pub returns-in-Err-NoMemory : goal.returns-in-Err-NoMemory
@@ -32,6 +33,7 @@ returns-in-Err-NoMemory g c = λ h kit.
         counts = run.faults;
         want_counts = run.wants;
         sound = λ e. (let s = run.sound e in (s.sound, s.faults));
+        safe = λ e x. cc x;
         kit = record { name = kit.name; short = kit.short; counts = kit.counts; video = kit.video; mux = c.in-Err-NoMemory.ensures.of h kit.mux };
         fifo = refl;
         runs = refl;
@@ -39,7 +41,7 @@ returns-in-Err-NoMemory g c = λ h kit.
         sessions = refl;
         session_places = refl;
       };
-      mux = λ e. absurd (cc e);
+      writer = λ e. absurd (cc e);
     }
 
 pub returns-in-Err-Failed : goal.returns-in-Err-Failed
@@ -51,6 +53,7 @@ returns-in-Err-Failed g c = λ h kit.
         counts = run.faults;
         want_counts = run.wants;
         sound = λ e. (let s = run.sound e in (s.sound, s.faults));
+        safe = λ e x. (run.sound e).ok refl;
         kit = record { name = kit.name; short = kit.short; counts = kit.counts; video = kit.video; mux = c.in-Err-Failed.ensures.of h kit.mux };
         fifo = refl;
         runs = refl;
@@ -58,5 +61,5 @@ returns-in-Err-Failed g c = λ h kit.
         sessions = refl;
         session_places = refl;
       };
-      mux = λ e. absurd (cc e);
+      writer = λ e. absurd (cc e);
     }

@@ -2,6 +2,7 @@ use Rattle.std.proofs.Common.{None, refl, sym, ap, ◌∙◌}
 use Rattle.fifo_core.specs.State.{Shows, hand_of}
 use Rattle.slave.specs.Job.{view_of}
 use Rattle.slave.specs.End.{end_view}
+use Rattle.slave.specs.Watched.{inner}
 use Rattle.slave.proofs.Finish.{EndTells, live_now, ended_closed, ended_live}
 use Rattle.slave.proofs.GivenUp.{dead_shut, dead_unclosed}
 use Rattle.slave.proofs.job.SlaveJob.finish_direct.Goals as goal
@@ -30,8 +31,8 @@ returns-then-is_live-clause-ended g c = λ out o L k.
     let shows : Shows o k.history None c.end-answer.new.self.fifo = rw closes.fifo k.stands.shows in
     let i = c.into_end.ensures in
     let told : EndTells (view_of g.S.Shelf.state c.end-answer.new.self) (end_view g.S.Shelf.state c.into_end.result) = record {
-      before = c.end-answer.new.self.shelf.before;
-      added = c.end-answer.new.self.shelf.last;
+      before = (inner c.end-answer.new.self.shelf).before;
+      added = (inner c.end-answer.new.self.shelf).last;
       shelf = rw i.shelf refl;
       bytes = i.bytes;
       fates = i.fates;
@@ -47,8 +48,8 @@ returns-else-is_live-clause-ended g c = λ out o L k.
     let b = c.is_live.ensures o k.history None k.stands.shows in
     let i = c.into_end-else-is_live.ensures in
     let told : EndTells (view_of g.S.Shelf.state c.args.self) (end_view g.S.Shelf.state c.into_end-else-is_live.result) = record {
-      before = c.args.self.shelf.before;
-      added = c.args.self.shelf.last;
+      before = (inner c.args.self.shelf).before;
+      added = (inner c.args.self.shelf).last;
       shelf = rw i.shelf refl;
       bytes = i.bytes;
       fates = i.fates;
