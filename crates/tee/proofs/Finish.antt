@@ -12,7 +12,7 @@ use Rattle.rmx_media.specs.declared.streams.StreamInfo.{StreamInfo}
 use Rattle.slave.specs.End.{EndView, IsUnclosed, end_view}
 use Rattle.slave.specs.declared.job.SlaveEnd.{SlaveEnd}
 use Rattle.tee.specs.Ends.{AllEnded, EndsAll}
-use Rattle.tee.specs.Fails.{all_of, any_both, any_want, failed_slave, first_failed_from, is_failed, is_want, or_first, stops}
+use Rattle.tee.specs.Fails.{all_of, any_both, any_want, failed_in, failed_slave, first_failed_from, is_failed, is_want, stops}
 use Rattle.tee.specs.Keeps.{Keeps, dead_in, stopped_by}
 use Rattle.tee.specs.Seat.{Seat, aborts}
 use Rattle.tee.specs.Sits.{AllEndAt, AllSit, EndsAt, Sits, deads, is_dead}
@@ -115,7 +115,7 @@ all_failed state given (s ∷ ss) (h ∷ hs) (x ∷ es) a w e =
     let none = neither (is_want x.state) (any_want (states_of es)) w in
     both_by (is_dead s h) (all_of (deads ss hs)) (is_failed x.state) (list_all is_failed (states_of es)) (failed_by (is_dead s h) x.state a.0.given_up none.0) (all_failed state given ss hs es a.1 none.1) e
 
-either_found : (x y : Bool) (found : Option ℕ) (all : Bool) → (x ≡ true → is_some found ≡ true) → (y ≡ true → all ≡ true) → (x || y) ≡ true → is_some (or_first found all) ≡ true
+either_found : (x y : Bool) (found : Option ℕ) (all : Bool) → (x ≡ true → is_some found ≡ true) → (y ≡ true → all ≡ true) → (x || y) ≡ true → is_some (failed_in found all) ≡ true
 either_found x y (Some k) all g h e = refl
 either_found true y None all g h e = absurd (let is = g refl in cc)
 either_found false y None true g h e = refl

@@ -32,13 +32,14 @@ first_failed_from n [] states = None
 first_failed_from n (a ∷ more) [] = None
 first_failed_from n (a ∷ more) (s ∷ ss) = if a && is_failed s then Some n else first_failed_from (n + 1) more ss
 
-abbrev pub or_first : Option ℕ → Bool → Option ℕ
-or_first None all = if all then Some 0 else None
-or_first (Some k) all = Some k
+-- the first output that aborts and failed, or 0 where there is none and every one failed
+abbrev pub failed_in : Option ℕ → Bool → Option ℕ
+failed_in (Some k) all = Some k
+failed_in None all = if all then Some 0 else None
 
 -- the output whose failure ends the run: the first that aborts, or 0 where every one failed and none aborts
 abbrev pub failed_slave : List Bool → List EndState → Option ℕ
-failed_slave aborts states = or_first (first_failed_from 0 aborts states) (list_all is_failed states)
+failed_slave aborts states = failed_in (first_failed_from 0 aborts states) (list_all is_failed states)
 
 -- memory was wanted by an output
 abbrev pub any_want : List EndState → Bool

@@ -2,9 +2,9 @@ pub mod Choice
 pub mod Draft
 pub mod Ends
 pub mod Fails
-pub mod Fault
 pub mod Fed
 pub mod Keeps
+pub mod None
 pub mod Route
 pub mod Seat
 pub mod Sits

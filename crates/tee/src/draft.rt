@@ -6,7 +6,7 @@ ghost use Rattle.rmx_media.specs.Streams.{AreInfos, CanMux, IsScript};
 ghost use Rattle.slave.specs.Calls.{IsBuilt};
 ghost use Rattle.slave.specs.Prepared.{IsPrepared};
 ghost use Rattle.tee.specs.Choice.{chosen_streams as streams_chosen};
-ghost use Rattle.tee.specs.Fault.{none_in};
+ghost use Rattle.tee.specs.None.{none_in};
 
 use crate::choice::{Choice, chosen_streams};
 use crate::fault::TeeFault;

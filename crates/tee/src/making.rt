@@ -7,7 +7,7 @@ ghost use Rattle.rmx_media.specs.Streams.{AreInfos, IsScript};
 ghost use Rattle.rmx_media.specs.declared.streams.StreamInfo.{StreamInfo as Info};
 ghost use Rattle.slave.specs.Calls.{IsBuilt};
 ghost use Rattle.tee.specs.Draft.{AreOpen, IsDraft};
-ghost use Rattle.tee.specs.Fault.{none_in};
+ghost use Rattle.tee.specs.None.{none_in};
 ghost use Rattle.tee.specs.Seat.{first_without};
 
 use crate::draft::Draft;

@@ -1,18 +1,19 @@
 // All outputs of a run.
-ghost use Rattle.std.specs.Prelude.{◌≡◌, ◌≤◌, ◌<◌, ◌+◌, ◌++◌, ◌∷◌, [], ◌^◌, ℕ, true, false, length, map, option_map, All, List, Option, None, Some, IfErr, IfOk, IfSome, OnErr, is_some};
+ghost use Rattle.std.specs.Prelude.{◌≡◌, ◌≤◌, ◌<◌, ◌+◌, ◌++◌, ◌∷◌, [], ◌^◌, ℕ, true, false, length, map, option_map, All, List, Option, None, Some, IfErr, IfOk, OnErr, is_some};
 ghost use Rattle.std.specs.List.{AllZip};
 ghost use Rattle.fifo_core.specs.History.{History};
 ghost use Rattle.rmx_media.specs.declared.packet.Packet.{Packet};
 ghost use Rattle.rmx_media.specs.declared.streams.StreamInfo.{StreamInfo as Info};
-ghost use Rattle.options.specs.Slave.{Slave, view};
-ghost use Rattle.options.specs.Valid.{IsValid};
+ghost use Rattle.options.specs.Slave.{Slave};
+ghost use Rattle.options.specs.Valid.{IsValidPlan};
+ghost use Rattle.options.specs.Words.{plan_view};
 ghost use Rattle.rmx_media.specs.Streams.{AreInfos, IsScript};
 ghost use Rattle.slave.specs.Calls.{IsBuilt};
 ghost use Rattle.slave.specs.End.{end_view};
 ghost use Rattle.tee.specs.Ends.{EndsAll};
 ghost use Rattle.tee.specs.Fails.{any_want, failed_slave, stops};
-ghost use Rattle.tee.specs.Fault.{none_in};
 ghost use Rattle.tee.specs.Fed.{is_stop};
+ghost use Rattle.tee.specs.None.{IsNoneFault};
 ghost use Rattle.tee.specs.Seat.{AreSeats, Seat, IsInput, aborts, first_without};
 ghost use Rattle.tee.specs.Route.{AllFiltered};
 ghost use Rattle.tee.specs.Sits.{AllSit, AllSitOn, deads};
@@ -27,7 +28,7 @@ use crate::making::{Room, drafts_of, open_all};
 use crate::output::TeeSlave;
 use arrayvec::ArrayVec;
 use bytes::Bytes;
-use options::SlavePlan;
+use options::Plan;
 use rmx_edge::Shelf;
 use rmx_media::{Items, NoMemory, Packet, StreamInfo};
 use slave::SlaveEnd;
@@ -131,29 +132,28 @@ impl<S: Shelf + Drop> Tee<S> {
     ghost use Rattle.tee.specs.Draft.{IsDraft};
     ghost use Rattle.tee.specs.Keeps.{Keeps, dead_in, infos_of, spare_of};
 
-    /// A tee of the outputs of these plans. Output k gets shelf k, and all memory is taken before the first call of a shelf.
+    /// A tee of the outputs of a plan. Output k gets shelf k, and all memory is taken before the first call of a shelf.
     pub fn new(
         alloc: Global,
-        slaves: &[SlavePlan],
+        plan: &Plan,
         infos: &[StreamInfo],
         script: Option<&Bytes>,
         shelves: Vec<S>,
     ) -> Result<Tee<S>, TeeRefused<S>>
-        requires room { length slaves.now ≤ length shelves.items }
-        requires few { length slaves.now ≤ 16 }
+        requires sixteen { length shelves.items ≡ 16 }
         requires idle { All (λ s. (S.state s).writing ≡ false) shelves.items }
-        requires valid { All IsValid (map view slaves.now) }
-        requires built { All (λ s. IsBuilt s.format) (map view slaves.now) }
+        requires valid { IsValidPlan (plan_view plan.now) }
+        requires built { All (λ s. IsBuilt s.format) (plan_view plan.now).slaves }
         requires infos { AreInfos infos.now }
         requires script { IsScript (option_map (λ body. body.now) script) }
         ensures made { IfOk result (λ t. (seats : List Seat)
-            × AreSeats S.state infos.now (option_map (λ body. body.now) script.entry) (map view slaves.now) shelves.items seats (spare_of t) × Keeps S.state t seats []) }
+            × AreSeats S.state infos.now (option_map (λ body. body.now) script.entry) (plan_view plan.now).slaves shelves.items seats (spare_of t) × Keeps S.state t seats []) }
         ensures infos { IfOk result (λ t. infos_of t ≡ infos.now) }
-        ensures taken { IfOk result (λ t. first_without infos.now (map view slaves.now) ≡ None) }
+        ensures taken { IfOk result (λ t. first_without infos.now (plan_view plan.now).slaves ≡ None) }
         ensures back { IfErr result (λ r. r.shelves.items ≡ shelves.items) }
-        ensures none { IfErr result (λ r. IfSome (none_in r.fault) (λ slave. first_without infos.now (map view slaves.now) ≡ Some slave)) }
+        ensures none { IfErr result (λ r. IsNoneFault r.fault (first_without infos.now (plan_view plan.now).slaves)) }
     {
-        let drafts = match drafts_of(alloc, slaves, infos, script) {
+        let drafts = match drafts_of(alloc, plan.slaves.as_slice(), infos, script) {
             Ok(drafts) => drafts,
             Err(fault) => return Err(TeeRefused { fault, shelves }),
         };
@@ -206,7 +206,7 @@ impl<S: Shelf + Drop> Tee<S> {
 
     /// Ends all outputs.
     pub fn finish(self) -> TeeEnd<S>
-        requires ready { (seats : List Seat) × (given : List Packet) × Keeps S.state self seats given }
+        requires kept { (seats : List Seat) × (given : List Packet) × Keeps S.state self seats given }
         ensures ends { (seats : List Seat) (given : List Packet) → Keeps S.state self seats given → EndsAll seats given (dead_in self) (map (end_view S.state) result.ends.items) }
         // Where an output that aborts, or every one, was dead and no output wanted memory, one failed that ends the run.
         ensures failed { (u : ℕ) → dead_in self u ≡ true → (seats : List Seat) (given : List Packet) → Keeps S.state self seats given
