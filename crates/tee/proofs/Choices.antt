@@ -1,6 +1,6 @@
 -- The streams that an output takes, and its chains.
-use Rattle.std.proofs.Common.{◌≡◌, ◌≢◌, ◌<◌, ◌≤◌, ◌+◌, ℕ, zero, suc, List, [], ◌∷◌, ◌++◌, length, get_or, drop, Bool, true, false, cond, Option, Some, None, refl, sym, ◌∙◌, ap, subst, arith, rules}
-use Rattle.std.specs.Prelude.{◌==◌, ◌&&◌, ◌||◌, nat_le, if◌then◌else◌}
+use Rattle.std.proofs.Common.{◌≡◌, ◌≢◌, ◌<◌, ◌≤◌, ◌+◌, ℕ, zero, suc, List, [], ◌∷◌, ◌++◌, length, get_or, Bool, true, false, cond, Option, Some, None, refl, sym, ◌∙◌, subst, arith}
+use Rattle.std.specs.Prelude.{◌==◌, ◌&&◌, ◌||◌}
 use Rattle.std.specs.List.{list_any, list_all, filter}
 use Rattle.std.proofs.lemmas.Bool.Decides.{nat_tests}
 use Rattle.bsf_chain.specs.declared.filter.Filter.{Filter}
@@ -13,7 +13,7 @@ use Rattle.rmx_media.specs.declared.streams.Kind.TheVariants.{Video, Audio}
 use Rattle.rmx_media.specs.declared.streams.MuxStream.{MuxStream}
 use Rattle.rmx_media.specs.declared.streams.StreamInfo.{StreamInfo}
 use Rattle.rmx_media.specs.Streams.{AreInfos, AreStreams, IsSound, kind_in}
-use Rattle.tee.specs.Choice.{takes_kind, file_format, numbered_from, all_streams, is_taken, is_chosen, chosen_streams}
+use Rattle.tee.specs.Choice.{takes_kind, file_format, numbered_from, is_taken, is_chosen, chosen_streams}
 
 none_picked : (b more : Bool) (xs rest : List Filter) → (b || more) ≡ false → (more ≡ false → rest ≡ []) → cond b (xs ++ rest) rest ≡ []
 none_picked true more xs rest e h = absurd cc

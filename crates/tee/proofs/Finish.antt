@@ -1,7 +1,7 @@
 -- How all outputs end.
-use Rattle.std.proofs.Common.{◌≡◌, ◌<◌, ◌≤◌, ◌+◌, ℕ, zero, suc, List, [], ◌∷◌, ◌++◌, length, map, Bool, true, false, cond, Option, Some, None, refl, sym, ◌∙◌, ap, subst, inl, inr, arith}
+use Rattle.std.proofs.Common.{◌≡◌, ◌+◌, ℕ, List, [], ◌∷◌, ◌++◌, map, Bool, true, false, cond, Option, Some, None, refl, sym, ◌∙◌, inl, inr}
 use Rattle.std.specs.Prelude.{◌&&◌, ◌||◌, is_some}
-use Rattle.std.specs.List.{AllZip, list_all, list_any}
+use Rattle.std.specs.List.{AllZip, list_all}
 use Rattle.fifo_core.specs.History.{History}
 use Rattle.fifo_core.specs.declared.types.EndState.{EndState}
 use Rattle.fifo_core.specs.declared.types.EndState.TheVariants as ends
@@ -9,10 +9,10 @@ use Rattle.rmx_edge.specs.Shelf.{ShelfState}
 use Rattle.rmx_edge.specs.declared.shelf.Shelf.{Ghosts}
 use Rattle.rmx_media.specs.declared.packet.Packet.{Packet}
 use Rattle.rmx_media.specs.declared.streams.StreamInfo.{StreamInfo}
-use Rattle.slave.specs.End.{EndView, IsUnclosed, end_view}
+use Rattle.slave.specs.End.{IsUnclosed, end_view}
 use Rattle.slave.specs.declared.job.SlaveEnd.{SlaveEnd}
 use Rattle.tee.specs.Ends.{AllEnded, EndsAll}
-use Rattle.tee.specs.Fails.{all_of, any_both, any_want, failed_in, failed_slave, first_failed_from, is_failed, is_want, stops}
+use Rattle.tee.specs.Fails.{all_of, any_both, any_want, failed_in, failed_slave, first_failed_from, is_failed, is_want}
 use Rattle.tee.specs.Keeps.{Keeps, dead_in, stopped_by}
 use Rattle.tee.specs.Seat.{Seat, aborts}
 use Rattle.tee.specs.Sits.{AllEndAt, AllSit, EndsAt, Sits, deads, is_dead}

@@ -1,5 +1,5 @@
 -- An output that gets one packet more.
-use Rattle.std.proofs.Common.{◌≡◌, ◌<◌, ◌≤◌, ◌+◌, ℕ, zero, suc, List, [], ◌∷◌, ◌++◌, length, length-append, append-nil, Option, Some, None, refl, sym, ◌∙◌, ap, subst, arith, true}
+use Rattle.std.proofs.Common.{◌≡◌, ◌≤◌, ◌+◌, ℕ, List, [], ◌∷◌, ◌++◌, length, length-append, append-nil, Option, Some, None, refl, sym, ◌∙◌, ap, subst, arith}
 use Rattle.std.specs.Option.{option_and_then}
 use Rattle.std.specs.List.{filter_map}
 use Rattle.std.proofs.lemmas.List.Elements.{filter_map-append}
@@ -12,7 +12,7 @@ use Rattle.slave.specs.Job.{JobView, view_of}
 use Rattle.slave.specs.Table.{Keeps, Grows}
 use Rattle.tee.specs.Choice.{choice}
 use Rattle.tee.specs.Seat.{Seat, chosen}
-use Rattle.tee.specs.Sits.{Sits, SitsOn, is_dead}
+use Rattle.tee.specs.Sits.{Sits, SitsOn}
 use Rattle.tee.specs.declared.output.TeeSlave.{TeeSlave}
 
 choice_at : Seat → Packet → Option Packet

@@ -1,5 +1,5 @@
 -- Whether an output that aborts, or every one, was given up.
-use Rattle.std.proofs.Common.{◌≡◌, ◌<◌, ◌≤◌, ◌+◌, ℕ, zero, suc, List, [], ◌∷◌, length, drop, drop-cons, get_or, add-one, Bool, true, false, refl, sym, ◌∙◌, ap, subst, arith}
+use Rattle.std.proofs.Common.{◌≡◌, ◌<◌, ◌+◌, ℕ, List, [], ◌∷◌, length, drop, drop-cons, get_or, add-one, Bool, true, false, refl, sym, ◌∙◌, ap, subst}
 use Rattle.std.specs.Prelude.{◌&&◌, ◌||◌}
 use Rattle.fifo_core.specs.History.{History, mode_of, mode_is_dead}
 use Rattle.rmx_edge.specs.Shelf.{ShelfState}

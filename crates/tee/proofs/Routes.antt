@@ -1,20 +1,17 @@
 -- What an output leaves of a packet fits its files.
-use Rattle.std.proofs.Common.{◌≡◌, ◌<◌, ◌≤◌, ◌+◌, ℕ, List, [], ◌∷◌, length, get_or, Bool, true, false, cond, Option, Some, None, Result, Ok, Err, refl, sym, ◌∙◌, ap, subst, arith, inl, inr, rules}
-use Rattle.std.specs.Prelude.{IfOk, IfSome, ◌==◌, ◌⊎◌}
+use Rattle.std.proofs.Common.{◌≡◌, ◌<◌, ◌≤◌, List, [], length, get_or, Bool, true, false, cond, Option, Some, None, Result, Ok, Err, refl, sym, ◌∙◌, ap, subst, arith, inl, inr}
+use Rattle.std.specs.Prelude.{IfOk}
 use Rattle.std.specs.List.{list_any}
 use Rattle.std.specs.Option.{option_map, option_and_then}
-use Rattle.bsf_chain.specs.Apply.{result_of, result_by, video_result, packet_of, passed, laid_of, Laid, IsKept, acts_on_video, acts_on_audio, in_form}
-use Rattle.bsf_chain.specs.Chain.{are_keepers}
+use Rattle.bsf_chain.specs.Apply.{result_of, result_by, video_result, packet_of, passed, laid_of, Laid, IsKept, acts_on_video, acts_on_audio}
 use Rattle.bsf_chain.specs.declared.filter.Filter.{Filter}
-use Rattle.options.specs.Filters.{filters_for, is_audio, selects}
-use Rattle.options.specs.Slave.{Slave}
-use Rattle.options.specs.Valid.{IsValid, writes}
+use Rattle.options.specs.Filters.{filters_for, is_audio}
+use Rattle.options.specs.Valid.{writes}
 use Rattle.options.specs.declared.select.Spec.{Spec}
 use Rattle.playlist.specs.declared.seg_options.SegOptions.{SegOptions}
 use Rattle.rmx_media.specs.declared.avc.AvcConfig.{AvcConfig}
 use Rattle.rmx_media.specs.declared.config.Config.{Config}
 use Rattle.rmx_media.specs.declared.config.Config.TheVariants.{Avc, Aac}
-use Rattle.rmx_media.specs.declared.packet.Form.TheVariants.{Native}
 use Rattle.rmx_media.specs.declared.packet.Format.{Format}
 use Rattle.rmx_media.specs.declared.packet.Format.TheVariants.{Flv, Adts, Mpegts, Segment}
 use Rattle.rmx_media.specs.declared.packet.Packet.{Packet}
@@ -24,10 +21,10 @@ use Rattle.rmx_media.specs.declared.streams.MuxStream.{MuxStream}
 use Rattle.rmx_media.specs.declared.streams.MuxStreams.{MuxStreams}
 use Rattle.rmx_media.specs.declared.streams.StreamInfo.{StreamInfo}
 use Rattle.rmx_media.specs.Config.{kind_of}
-use Rattle.rmx_media.specs.Fits.{Fits, FitsButDts, Suits}
+use Rattle.rmx_media.specs.Fits.{Fits, Suits}
 use Rattle.rmx_media.specs.Streams.{AreInfos, IsSound, kind_in}
 use Rattle.slave.specs.Calls.{IsBuilt}
-use Rattle.tee.specs.Choice.{choice, chosen_streams, all_streams, numbered_from, takes_kind, file_format}
+use Rattle.tee.specs.Choice.{all_streams, takes_kind, file_format}
 use Rattle.tee.specs.Route.{IsRoute, IsLeft, IsPlaced, IsFiltered}
 use Rattle.tee.specs.Seat.{Seat, IsInput}
 use Rattle.tee.specs.declared.choice.Choice.{Choice}

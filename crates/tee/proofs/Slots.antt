@@ -1,5 +1,5 @@
 -- Outputs that get a packet one after another.
-use Rattle.std.proofs.Common.{◌≡◌, ◌<◌, ◌≤◌, ◌+◌, ℕ, zero, suc, List, [], ◌∷◌, ◌++◌, length, get_or, set, take, drop, take-suc, add-one, append-nil, refl, sym, ◌∙◌, ap, subst, arith}
+use Rattle.std.proofs.Common.{◌≡◌, ◌<◌, ◌≤◌, ◌+◌, ℕ, zero, suc, List, [], ◌∷◌, ◌++◌, length, get_or, set, take, drop, take-suc, add-one, append-nil, refl, sym, ◌∙◌, ap, subst, arith, ◌*◌, Fits, w64}
 use Rattle.std.specs.List.{AllZip}
 use Rattle.std.proofs.Math.ListN.{drop_of_length-le}
 use Rattle.std.proofs.lemmas.List.{length-take-le, take_all}
@@ -42,6 +42,10 @@ zip_next {A} {B} R xs ys k x y lt is h r =
 
 pub zip_all : {A B : Type 0} (R : A → B → Type 0) (xs : List A) (ys : List B) (k : ℕ) → length xs ≤ k → AllZip R (take k xs) ys → AllZip R xs ys
 zip_all {A} R xs ys k le h = subst (λ (zs : List A). AllZip R zs ys) (take_all k xs le) h
+
+-- the place of one of a few
+pub offset_fits : (n : ℕ) → n < 16 → Fits w64 (n * 144)
+offset_fits n lt = omega arith
 
 -- a list that was written whole
 pub written_whole : {A : Type 0} (n : ℕ) (new old : List A) → length new ≡ n → length old ≡ n → take n (new ++ drop (length new) old) ≡ new

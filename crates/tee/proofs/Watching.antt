@@ -1,22 +1,22 @@
 -- When a run is over.
-use Rattle.std.proofs.Common.{◌≡◌, ◌<◌, ◌≤◌, ◌+◌, ◌⊎◌, ℕ, zero, suc, List, [], ◌∷◌, ◌++◌, length, length-append, append_assoc, take, Bool, true, false, Option, Some, None, refl, sym, ◌∙◌, ap, subst, inl, inr, arith}
+use Rattle.std.proofs.Common.{◌≡◌, ◌<◌, ◌≤◌, ◌+◌, ◌⊎◌, ℕ, List, [], ◌∷◌, ◌++◌, length, length-append, append_assoc, take, Bool, true, false, Option, Some, None, refl, sym, ◌∙◌, ap, subst, inl, inr, arith}
 use Rattle.std.specs.Prelude.{◌&&◌, ◌||◌, nat_le, is_some}
 use Rattle.std.proofs.lemmas.Bool.Decides.{nat_tests}
 use Rattle.std.proofs.lemmas.List.{take-append-le, take_all}
-use Rattle.fifo_core.specs.History.{History, mode_of, mode_is_dead}
+use Rattle.fifo_core.specs.History.{History}
 use Rattle.fifo_core.specs.Follows.{Follows}
 use Rattle.rmx_edge.specs.Shelf.{ShelfState}
 use Rattle.rmx_edge.specs.declared.shelf.Shelf.{Ghosts}
 use Rattle.rmx_media.specs.declared.packet.Packet.{Packet}
 use Rattle.rmx_media.specs.declared.streams.StreamInfo.{StreamInfo}
-use Rattle.slave.specs.Table.{Keeps, turns_from}
-use Rattle.tee.specs.Ends.{Stood, AllStood, StopsAt}
+use Rattle.slave.specs.Table.{turns_from}
+use Rattle.tee.specs.Ends.{Stood, AllStood}
 use Rattle.tee.specs.Fails.{any_both, all_of, stops}
 use Rattle.tee.specs.Keeps.{IsWithin, Watches, dead_in, stopped_by, stopped_with}
 use Rattle.tee.specs.Keeps.{Keeps as KeepsTee}
 use Rattle.tee.specs.declared.tee.Tee.{Tee}
 use Rattle.tee.specs.Seat.{Seat, aborts, chosen}
-use Rattle.tee.specs.Sits.{Sits, SitsOn, AllSit, AllSitOn, deads, is_dead}
+use Rattle.tee.specs.Sits.{Sits, AllSit, AllSitOn, deads, is_dead}
 use Rattle.tee.specs.declared.output.TeeSlave.{TeeSlave}
 
 -- a history goes on, and what was given up stays so

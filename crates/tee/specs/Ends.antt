@@ -1,5 +1,5 @@
 -- How the outputs of a run end.
-use Rattle.std.specs.Prelude.{◌≡◌, ℕ, ◌≤◌, ◌<◌, Bool, true, List, [], ◌∷◌, ◌++◌, length, take, map}
+use Rattle.std.specs.Prelude.{◌≡◌, ℕ, ◌≤◌, Bool, List, [], ◌∷◌, ◌++◌, length, take}
 use Rattle.fifo_core.specs.History.{History, mode_of, mode_is_dead}
 use Rattle.fifo_core.specs.Follows.{Follows}
 use Rattle.rmx_media.specs.declared.packet.Packet.{Packet}

@@ -45,6 +45,7 @@ pub fn filter_all<S: Shelf>(
 
 /// Each output writes what was left of a packet for it.
 pub fn give_all<S: Shelf>(slaves: &mut [TeeSlave<S>], p: &Packet, filtered: &[Filtered])
+    requires few { length slaves.old ≤ 16 }
     requires ready { (infos : List Info) × (given : List Packet) × (seats : List Seat) × (histories : List History)
         × AllSit S.state infos given seats histories slaves.old × AllFiltered seats p.now filtered.now × (length given < 2 ^ 61) }
     ensures { (infos : List Info) (given : List Packet) (seats : List Seat) (histories : List History)

@@ -62,6 +62,7 @@ impl<S: Shelf> Tee<S> {
 
     // Each output writes what was left of a packet for it.
     fn give(&mut self, p: &Packet, filtered: &[Filtered])
+        requires few { length self.old.slaves.items ≤ 16 }
         requires ready { (infos : List Info) × (given : List Packet) × (seats : List Seat) × (histories : List History)
             × AllSit S.state infos given seats histories self.old.slaves.items × AllFiltered seats p.now filtered.now × (length given < 2 ^ 61) }
         ensures sit { (infos : List Info) (given : List Packet) (seats : List Seat) (histories : List History)

@@ -1,4 +1,4 @@
-use Rattle.std.proofs.Common.{◌≡◌, ◌≤◌, sym, ◌∙◌, subst, length, true, false, List}
+use Rattle.std.proofs.Common.{◌≡◌, ◌≤◌, sym, ◌∙◌, subst, length, false, List}
 use Rattle.std.specs.List.{list_any}
 use Rattle.bsf_chain.specs.declared.filter.Filter.{Filter}
 use Rattle.options.specs.declared.select.Spec.{Spec}

@@ -1,4 +1,4 @@
-use Rattle.std.proofs.Common.{◌≡◌, ◌<◌, length, take, subst, sym, arith, List, ◌∷◌, ◌++◌, [], lit<, ◌+◌}
+use Rattle.std.proofs.Common.{◌<◌, length, take, subst, sym, arith, List, lit<, ◌+◌}
 use Rattle.std.specs.List.{AllZip}
 use Rattle.tee.specs.declared.filter.Filtered.{Filtered}
 use Rattle.tee.proofs.Slots.{IsFor, all_filtered, zip_all, zip_next, zip_take}

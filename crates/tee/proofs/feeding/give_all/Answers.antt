@@ -1,5 +1,5 @@
-use Rattle.std.proofs.Common.{add-one, arith}
-use Rattle.tee.proofs.Slots.{all_done, as_many, next_here, set_here}
+use Rattle.std.proofs.Common.{add-one, arith, ◌<◌}
+use Rattle.tee.proofs.Slots.{all_done, as_many, next_here, offset_fits, set_here}
 use Rattle.tee.proofs.feeding.give_all.Goals as goal
 
 pub bounds-filtered-place : goal.bounds-filtered-place
@@ -7,6 +7,12 @@ bounds-filtered-place g c =
     let r = c.requires.ready in
     let many = as_many g.S.Shelf.state r.0 r.1 c.args.p.now r.2 r.3 c.args.slaves.now c.args.filtered.now r.4 r.5 in
     omega arith
+
+pub offset_bounds-filtered-place : goal.offset_bounds-filtered-place
+offset_bounds-filtered-place g c =
+    let few = c.requires.few in
+    let below : c.loop-place.place < 16 = omega arith in
+    offset_fits c.loop-place.place below
 
 pub give-requires : goal.give-requires
 give-requires g c =

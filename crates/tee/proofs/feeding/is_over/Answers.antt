@@ -1,6 +1,6 @@
 use Rattle.std.proofs.Common.{Bool, subst, drop, arith}
 use Rattle.std.proofs.Math.ListN.{drop_of_length-le}
-use Rattle.tee.proofs.Over.{Says, StillTo, all_asked, next_aborts, next_dead, next_lives, step_at}
+use Rattle.tee.proofs.Over.{Says, all_asked, next_aborts, next_dead, next_lives, step_at}
 use Rattle.tee.proofs.feeding.is_over.Goals as goal
 use Rattle.tee.proofs.feeding.is_over.Goals.{then-not-is_dead, else-not-is_dead+else-slave}
 

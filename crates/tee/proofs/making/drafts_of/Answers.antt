@@ -1,4 +1,4 @@
-use Rattle.std.proofs.Common.{◌≡◌, ◌≢◌, ◌+◌, List, ℕ, Option, length, take, sym, ◌∙◌, subst, arith}
+use Rattle.std.proofs.Common.{◌≢◌, ◌+◌, List, length, take, sym, ◌∙◌, subst, arith}
 use Rattle.std.specs.List.{AllZip}
 use Rattle.std.specs.Option.{option_map}
 use Rattle.options.specs.Slave.{view}

@@ -1,4 +1,4 @@
-use Rattle.std.proofs.Common.{◌≡◌, ◌≢◌, length, sym, ◌∙◌, subst, arith, List}
+use Rattle.std.proofs.Common.{◌≢◌, length, sym, ◌∙◌, subst, arith, List}
 use Rattle.std.proofs.lemmas.Bool.Decides.{nat_tests}
 use Rattle.options.specs.Slave.{view}
 use Rattle.rmx_media.specs.Streams.{AreStreams}

@@ -1,7 +1,5 @@
-use Rattle.std.proofs.Common.{◌≡◌, None, sym, ◌∙◌, ap}
+use Rattle.std.proofs.Common.{sym, ◌∙◌, ap}
 use Rattle.tee.specs.Route.{written}
-use Rattle.tee.specs.Choice.{choice}
-use Rattle.tee.specs.declared.filter.Filtered.{Filtered}
 use Rattle.tee.proofs.Outputs.{sits_same}
 use Rattle.tee.proofs.output.TeeSlave.give.Goals as goal
 

@@ -1,4 +1,4 @@
-use Rattle.std.proofs.Common.{◌≤◌, length, sym, refl, arith}
+use Rattle.std.proofs.Common.{sym, refl, arith}
 use Rattle.tee.specs.Seat.{chosen}
 use Rattle.tee.proofs.Outputs.{few_chosen, sits_more}
 use Rattle.tee.proofs.output.TeeSlave.write.Goals as goal

@@ -1,13 +1,17 @@
-use Rattle.std.proofs.Common.{◌≡◌, ◌+◌, ℕ, List, [], ◌∷◌, ◌++◌, get_or, refl, sym, ◌∙◌, ap, subst}
+use Rattle.std.proofs.Common.{◌≡◌, ◌+◌, ℕ, List, [], ◌∷◌, ◌++◌, get_or, refl, sym, ◌∙◌, ap, subst, ◌<◌, length}
 use Rattle.rmx_media.specs.declared.streams.StreamInfo.{StreamInfo}
 use Rattle.tee.specs.Fed.{is_stop}
 use Rattle.tee.specs.Route.{AllFiltered}
 use Rattle.tee.specs.Sits.{AllSit}
 use Rattle.tee.specs.declared.filter.Filtered.{Filtered}
 use Rattle.tee.specs.declared.output.TeeSlave.{TeeSlave}
-use Rattle.tee.proofs.Routes.{info_of}
+use Rattle.tee.proofs.Routes.{info_of, number_of}
 use Rattle.tee.proofs.Watching.{fed_on, went_on}
 use Rattle.tee.proofs.tee.Tee.feed.Goals as goal
+
+pub bounds-as_slice-p : goal.bounds-as_slice-p
+bounds-as_slice-p g c =
+    subst (λ (xs : List StreamInfo). c.args.p.now.stream < length xs) (sym c.as_slice-2.ensures) (number_of c.args.self.now.infos.items c.args.p.now c.requires.taken)
 
 pub filter_all-requires-clause-info : goal.filter_all-requires-clause-info
 filter_all-requires-clause-info g c =
@@ -28,7 +32,7 @@ give-requires g c =
     let infos = c.args.self.now.infos.items in
     let sit = subst (λ (ts : List (TeeSlave g.row.S.Denot g.S.Shelf)). AllSit g.S.Shelf.state infos r.1 r.0 st.histories ts) (sym c.as_slice.ensures.value) st.sit in
     let filtered = subst (λ (fs : List Filtered). AllFiltered r.0 c.args.p.now fs) (sym c.as_slice-3.ensures.value) (c.in_ok-filter_all.ensures infos r.1 r.0 st.histories st.are_infos sit c.requires.taken) in
-    record { ready = (infos, r.1, r.0, st.histories, st.sit, filtered, r.3) }
+    record { few = r.2.few; ready = (infos, r.1, r.0, st.histories, st.sit, filtered, r.3) }
 
 pub count-requires-clause-sit : goal.count-requires-clause-sit
 count-requires-clause-sit g c =

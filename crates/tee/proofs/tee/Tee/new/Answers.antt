@@ -1,6 +1,5 @@
-use Rattle.std.proofs.Common.{◌≡◌, length, map, arith}
+use Rattle.std.proofs.Common.{map, arith}
 use Rattle.std.specs.Option.{option_map}
-use Rattle.std.proofs.lemmas.List.{length-map}
 use Rattle.options.specs.Slave.{view}
 use Rattle.tee.specs.Draft.{IsDraft}
 use Rattle.tee.proofs.Slots.{zip_length}

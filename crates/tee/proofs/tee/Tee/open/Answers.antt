@@ -1,4 +1,4 @@
-use Rattle.std.proofs.Common.{◌≡◌, List, [], Bool, None, refl, sym, ◌∙◌, ap, subst, arith}
+use Rattle.std.proofs.Common.{◌≡◌, List, [], Bool, None, sym, ◌∙◌, ap, subst}
 use Rattle.tee.specs.Fails.{stops}
 use Rattle.tee.specs.Keeps.{stopped_with}
 use Rattle.tee.specs.Seat.{AreSeats, aborts}
