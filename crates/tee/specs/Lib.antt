@@ -1,0 +1,10 @@
+pub mod Choice
+pub mod Draft
+pub mod Ends
+pub mod Fails
+pub mod Fed
+pub mod Keeps
+pub mod None
+pub mod Route
+pub mod Seat
+pub mod Sits
