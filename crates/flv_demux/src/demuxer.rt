@@ -1,5 +1,5 @@
 // Packets of an FLV text that comes in any pieces.
-ghost use Rattle.std.specs.Prelude.{◌≡◌, ◌<◌, ℕ, List, [], IfOk, IfSome, OnErr, OnOk, MatchOption, ◌++◌, true, false, Some, None};
+ghost use Rattle.std.specs.Prelude.{◌≡◌, ◌<◌, ◌≤◌, ℕ, List, [], length, IfOk, IfSome, OnErr, OnOk, MatchOption, ◌++◌, true, false, Some, None};
 ghost use Rattle.flv_tags.specs.declared.tag.Tag.{Tag};
 ghost use Rattle.flv_demux.specs.State.{HasDealt, Nexts, AreSoundInfos, left_in, is_packet};
 ghost use Rattle.flv_demux.specs.Steps.{Steps, Advances, is_on, is_refusal as refuses};
@@ -131,7 +131,8 @@ impl Demuxer {
 
     /// The body of the first script tag among those that tell which streams there are, once that is decided.
     pub fn script(&self) -> Option<&Bytes>
-        ensures { MatchOption result (self.now.shown.known ≡ true → self.now.core.probe.script ≡ None) (λ body. (self.now.shown.known ≡ true) × (self.now.core.probe.script ≡ Some body.now)) }
+        ensures script { MatchOption result (self.now.shown.known ≡ true → self.now.core.probe.script ≡ None) (λ body. (self.now.shown.known ≡ true) × (self.now.core.probe.script ≡ Some body.now)) }
+        ensures small { IfSome result (λ body. length body.now ≤ 16777215) }
     {
         if self.shown.known {
             self.streams.probe.script.as_ref()

@@ -5,3 +5,4 @@ pub mod History
 pub mod Pair
 pub mod Samples
 pub mod Stamps
+pub mod TimedLemmas

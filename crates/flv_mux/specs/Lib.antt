@@ -3,3 +3,4 @@ pub mod FlvMux
 pub mod Laws
 pub mod Packets
 pub mod Sample
+pub mod Timed

@@ -7,6 +7,7 @@ pub mod laws;
 pub mod mux;
 mod packet;
 mod tags;
+mod timed;
 mod track;
 
 pub use mux::FlvMux;

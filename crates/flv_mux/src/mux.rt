@@ -9,6 +9,7 @@ ghost use Rattle.rmx_media.specs.Streams.{kind_in};
 use crate::head::write_head;
 use crate::kinds::is_avc;
 use crate::packet::{write_packet, write_tail};
+use crate::timed::Timed;
 use crate::track::{Track, tracks};
 use rmx_edge::{Shelf, ShelfFault};
 use rmx_media::{MuxStreams, Packet};
@@ -38,6 +39,7 @@ impl FlvMux {
     ghost use Rattle.rmx_media.specs.Streams.{CanMux};
     ghost use Rattle.flv_mux.specs.Flv.{begin_calls, put_calls, end_calls, version_in};
     ghost use Rattle.flv_mux.specs.FlvMux.{streams_of, Shows};
+    ghost use Rattle.flv_mux.specs.Timed.{at_times, packet_of};
 
     /// A muxer for these streams.
     pub fn new(streams: MuxStreams) -> FlvMux
@@ -80,9 +82,33 @@ impl FlvMux {
         ensures shows { (before : List Packet) → Shows self.old before → Shows self.new (before ++ p.now ∷ []) }
         ensures ends { (before : List Packet) → EndsInWrite (put_calls before p.now) }
     {
+        self.put_at(p, p.dts, p.pts, shelf)
+    }
+
+    /// Writes a packet as `put` does, at these times in place of its own.
+    pub fn put_at<S: Shelf>(
+        &mut self,
+        p: &Packet,
+        dts: i64,
+        pts: i64,
+        shelf: &mut S,
+    ) -> Result<(), ShelfFault>
+        requires begun { (S.state shelf.old).writing ≡ true }
+        requires fits { FitsLowered Flv (streams_of self.old) (at_times dts pts p.now) }
+        ensures streams { streams_of self.new ≡ streams_of self.old }
+        ensures run { (before : List Packet) → Shows self.old before → Runs (put_calls before (at_times dts pts p.now)) result (S.state shelf.old) (S.state shelf.new) }
+        ensures open { OnOk result ((S.state shelf.new).writing ≡ true) }
+        ensures shows { (before : List Packet) → Shows self.old before → Shows self.new (before ++ at_times dts pts p.now ∷ []) }
+        ensures ends { (before : List Packet) → EndsInWrite (put_calls before (at_times dts pts p.now)) }
+    {
+        let timed = Timed {
+            packet: p,
+            dts,
+            pts,
+        };
         let changed = self.is_changed(p);
-        self.pass(p);
-        write_packet(shelf, p, changed)
+        self.pass(&timed);
+        write_packet(shelf, &timed, changed)
     }
 
     /// Ends the file that was begun, with the end of the sequence where it has video.
@@ -90,6 +116,7 @@ impl FlvMux {
         requires { (S.state shelf.old).writing ≡ true }
         ensures streams { streams_of self.new ≡ streams_of self.old }
         ensures run { (all : List Packet) → Shows self.old all → Runs (end_calls (streams_of self.old) all) result (S.state shelf.old) (S.state shelf.new) }
+        ensures idle { (S.state shelf.new).writing ≡ false }
     {
         match write_tail(shelf, &self.streams, self.video_time) {
             Ok(()) => shelf.close(),
@@ -109,19 +136,20 @@ impl FlvMux {
     }
 
     // The muxer behind one more packet.
-    fn pass(&mut self, p: &Packet)
+    fn pass(&mut self, p: &Timed)
         ensures streams { self.new.streams ≡ self.old.streams }
-        ensures shows { (before : List Packet) → Shows self.old before → Shows self.new (before ++ p.now ∷ []) }
+        ensures shows { (before : List Packet) → Shows self.old before → Shows self.new (before ++ packet_of p.now ∷ []) }
     {
-        self.first = self.first.past(p);
-        self.second = self.second.past(p);
+        self.first = self.first.past(p.packet);
+        self.second = self.second.past(p.packet);
         self.video_time = time_past(self.video_time, p);
     }
 }
 
 // The time of the last video packet, behind one more packet.
-fn time_past(time: i64, p: &Packet) -> i64
-    ensures { result ≡ (if is_video (kind_of p.now.config) then p.now.dts else time) }
+fn time_past(time: i64, p: &Timed) -> i64
+    ensures { result ≡ (if is_video (kind_of p.now.packet.now.config) then p.now.dts else time) }
 {
-    if is_avc(&p.config) { p.dts } else { time }
+    let video = is_avc(&p.packet.config);
+    if video { p.dts } else { time }
 }

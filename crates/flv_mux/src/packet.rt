@@ -5,22 +5,28 @@ ghost use Rattle.rmx_edge.specs.Run.{Runs};
 ghost use Rattle.rmx_media.specs.Bits.{bytes_of};
 ghost use Rattle.flv_mux.specs.Flv.{config_pieces, media_pieces, media_lead, tail_pieces_at};
 ghost use Rattle.flv_mux.specs.Packets.{CanWrite, IsTimed};
+ghost use Rattle.flv_mux.specs.Timed.{packet_of};
 
 use crate::head::write_config;
 use crate::kinds::has_video;
 use crate::tags::{sequence_end_bytes, write_tag};
+use crate::timed::Timed;
 use rmx_edge::{Shelf, ShelfFault, write_piece};
-use rmx_media::{Config, MuxStreams, Packet};
+use rmx_media::{Config, MuxStreams};
 
 /// Writes a packet, behind its configuration where that changed.
-pub fn write_packet<S: Shelf>(shelf: &mut S, p: &Packet, changed: bool) -> Result<(), ShelfFault>
+pub(crate) fn write_packet<S: Shelf>(
+    shelf: &mut S,
+    p: &Timed,
+    changed: bool,
+) -> Result<(), ShelfFault>
     requires begun { (S.state shelf.old).writing ≡ true }
-    requires fits { CanWrite p.now }
-    ensures run { Runs (writes (if changed then config_pieces p.now.dts p.now.config ++ media_pieces p.now else media_pieces p.now)) result (S.state shelf.old) (S.state shelf.new) }
+    requires fits { CanWrite (packet_of p.now) }
+    ensures run { Runs (writes (if changed then config_pieces p.now.dts p.now.packet.now.config ++ media_pieces (packet_of p.now) else media_pieces (packet_of p.now))) result (S.state shelf.old) (S.state shelf.new) }
     ensures open { OnOk result ((S.state shelf.new).writing ≡ true) }
 {
     if changed {
-        match write_config(shelf, p.dts, &p.config) {
+        match write_config(shelf, p.dts, &p.packet.config) {
             Ok(()) => return write_media(shelf, p),
             Err(fault) => return Err(fault),
         }
@@ -29,16 +35,16 @@ pub fn write_packet<S: Shelf>(shelf: &mut S, p: &Packet, changed: bool) -> Resul
 }
 
 // Writes the tag that holds the payload.
-fn write_media<S: Shelf>(shelf: &mut S, p: &Packet) -> Result<(), ShelfFault>
+fn write_media<S: Shelf>(shelf: &mut S, p: &Timed) -> Result<(), ShelfFault>
     requires begun { (S.state shelf.old).writing ≡ true }
-    requires fits { CanWrite p.now }
-    ensures run { Runs (writes (media_pieces p.now)) result (S.state shelf.old) (S.state shelf.new) }
+    requires fits { CanWrite (packet_of p.now) }
+    ensures run { Runs (writes (media_pieces (packet_of p.now))) result (S.state shelf.old) (S.state shelf.new) }
     ensures open { OnOk result ((S.state shelf.new).writing ≡ true) }
 {
-    let payload = p.payload.as_slice();
-    match &p.config {
+    let payload = p.packet.payload.as_slice();
+    match &p.packet.config {
         Config::Avc(_) => {
-            let lead = video_lead(p.key, p.dts, p.pts);
+            let lead = video_lead(p.packet.key, p.dts, p.pts);
             write_tag(shelf, 9, p.dts, &lead, payload)
         }
         Config::Aac(_) => write_tag(shelf, 8, p.dts, &[175, 1], payload),

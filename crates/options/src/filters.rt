@@ -1,13 +1,14 @@
 //! The filter chains of an output, each with the streams that it is for.
 
-ghost use Rattle.std.specs.Prelude.{◌≡◌, ◌+◌, ◌≤◌, ◌++◌, ◌==◌, length, unwrap_or, option_map, [], nat_le};
+ghost use Rattle.std.specs.Prelude.{◌≡◌, ◌+◌, ◌≤◌, ◌==◌, length};
 ghost use Rattle.std.specs.Option.{SomeIff};
 ghost use Rattle.options.specs.Read.{Gives};
-ghost use Rattle.options.specs.Filters.{spec_number, is_same, chain, chain_for, has_chain, are_native, fit_together, are_short};
+ghost use Rattle.options.specs.Filters.{spec_number, is_same, chain, has_chain, are_native, selects, filters_for, fit_together, are_short};
 
 use crate::fault::{ReadError, WordKind};
 use crate::select::Spec;
 use bsf_chain::Chain;
+use rmx_media::Kind;
 
 fn spec_number(spec: Spec) -> u64
     ensures { result ≡ spec_number spec }
@@ -37,18 +38,6 @@ pub fn chain_of(text: &str) -> Result<Chain, ReadError>
     }
 }
 
-// The chain for exactly these streams.
-fn chain_for(chains: &[(Spec, Chain)], spec: Spec) -> Option<&Chain>
-    ensures { unwrap_or (option_map (λ chain. chain.now) result) [] ≡ chain_for chains.now spec }
-{
-    for chain in chains {
-        if is_same(chain.0, spec) {
-            return Some(&chain.1);
-        }
-    }
-    None
-}
-
 /// Whether there is a chain for exactly these streams.
 pub fn has_chain(chains: &[(Spec, Chain)], spec: Spec) -> bool
     ensures { result ≡ has_chain chains.now spec }
@@ -64,39 +53,47 @@ pub fn are_native(chains: &[(Spec, Chain)]) -> bool
     chains.iter().all(|chain| chain.1.keeps_native())
 }
 
-fn joined_with(joined: &Chain, chains: &[(Spec, Chain)], spec: Spec) -> Option<Chain>
-    ensures { SomeIff result (length joined.now + length (chain_for chains.now spec) ≤ 16) (joined.now ++ chain_for chains.now spec) }
+/// Whether a specifier selects the stream of that number and kind.
+pub fn selects(spec: Spec, number: u32, kind: Kind) -> bool
+    ensures { result ≡ selects spec number kind }
 {
-    match chain_for(chains, spec) {
-        Some(chain) => joined.join(chain),
-        None => joined.join(&Chain::empty()),
+    match spec {
+        Spec::All => true,
+        Spec::Video => kind == Kind::Video,
+        Spec::Audio => kind == Kind::Audio,
+        Spec::Index(index) => index == number,
     }
 }
 
-// Whether the chains for all streams, for that kind and for that number have at most sixteen filters together.
-#[tactic(auto, unfolding(crate::specs::Filters::fit_together))]
-fn fit_together(chains: &[(Spec, Chain)], kind: Spec, number: Spec) -> bool
-    ensures { result ≡ fit_together chains.now kind number }
+/// The chains that select that stream as one, in their order, or None where they have more than sixteen filters together.
+pub fn joined_chain(chains: &[(Spec, Chain)], number: u32, kind: Kind) -> Option<Chain>
+    ensures { SomeIff result (length (filters_for chains.now number kind) ≤ 16) (filters_for chains.now number kind) }
 {
-    let Some(all) = joined_with(&Chain::empty(), chains, Spec::All) else {
-        return false;
-    };
-    let Some(both) = joined_with(&all, chains, kind) else {
-        return false;
-    };
-    match joined_with(&both, chains, number) {
-        Some(_) => true,
-        None => false,
+    let mut joined = Chain::empty();
+    for chain in chains {
+        if selects(chain.0, number, kind) {
+            match joined.join(&chain.1) {
+                Some(longer) => joined = longer,
+                None => return None,
+            }
+        }
     }
+    Some(joined)
 }
 
-/// Whether the chains that may act on one stream never have more than sixteen filters together.
+fn fit_together(chains: &[(Spec, Chain)], number: u32, kind: Kind) -> bool
+    ensures { result ≡ fit_together chains.now number kind }
+{
+    joined_chain(chains, number, kind).is_some()
+}
+
+/// Whether the chains that act on one stream never have more than sixteen filters together.
 #[tactic(auto, unfolding(crate::specs::Filters::are_short))]
 pub fn are_short(chains: &[(Spec, Chain)]) -> bool
     ensures { result ≡ are_short chains.now }
 {
-    fit_together(chains, Spec::Video, Spec::Index(0))
-        && fit_together(chains, Spec::Video, Spec::Index(1))
-        && fit_together(chains, Spec::Audio, Spec::Index(0))
-        && fit_together(chains, Spec::Audio, Spec::Index(1))
+    fit_together(chains, 0, Kind::Video)
+        && fit_together(chains, 1, Kind::Video)
+        && fit_together(chains, 0, Kind::Audio)
+        && fit_together(chains, 1, Kind::Audio)
 }

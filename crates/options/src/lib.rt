@@ -23,6 +23,7 @@ mod words;
 
 pub use fault::{WordFault, WordKind};
 pub use fifo::FifoKey;
+pub use filters::{joined_chain, selects};
 pub use key::{Key, Row};
 pub use select::Spec;
 pub use slave::SlavePlan;

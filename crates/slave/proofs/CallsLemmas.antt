@@ -12,6 +12,7 @@ use Rattle.rmx_edge.proofs.Run.{rose_later, writing_after-append, after-append, 
 use Rattle.rmx_media.specs.declared.packet.Packet.{Packet}
 use Rattle.slave.specs.Origin.{Origin}
 use Rattle.slave.specs.Calls.{begin_calls, put_calls, puts}
+use Rattle.slave.specs.Job.{SoundStays}
 
 and_false : (b : Bool) → (b && false) ≡ false
 and_false true = refl
@@ -74,3 +75,6 @@ first_puts out s p = ap (λ (cs : List ShelfCall). begin_calls out s ++ cs) (app
 
 pub no_puts : (out : Origin) (s : ℕ) → begin_calls out s ++ puts out [] ≡ begin_calls out s
 no_puts out s = append-nil (begin_calls out s)
+
+pub sound_then : (a b c : ShelfState) → SoundStays a b → SoundStays b c → SoundStays a c
+sound_then a b c p q e = let x = p e in let y = q x.0 in (y.0, y.1 ∙ x.1)

@@ -78,7 +78,7 @@ end_unwanted o h a false u e f = refl
 end_unwanted o h None true u e f = absurd (f refl refl)
 end_unwanted o h (Some b) true u e f = absurd (cc e)
 
-told_notes : (h : History) (a : Option Answer) (ns : List FaultNote) → EndNotes h a ns → ns ≡ [] → (a ≡ Some answer.Fault → ⊥) × NotesTell h []
+pub told_notes : (h : History) (a : Option Answer) (ns : List FaultNote) → EndNotes h a ns → ns ≡ [] → (a ≡ Some answer.Fault → ⊥) × NotesTell h []
 told_notes h None ns t e = (λ x. cc x, rw e at t)
 told_notes h (Some answer.Done) ns t e = (λ x. cc x, rw e at t)
 told_notes h (Some answer.Fault) ns t e = absurd (not_empty t.0 t.1 (sym e ∙ t.2))

@@ -9,7 +9,7 @@ use Rattle.fifo_core.specs.declared.types.Mode.TheVariants.{Live, Broken, Dead}
 use Rattle.fifo_core.specs.History.{History, mode_of, mode_is_live, session_of, fates_of, wanted}
 use Rattle.fifo_core.specs.State.{session_in}
 use Rattle.rmx_edge.specs.Shelf.{ShelfState}
-use Rattle.slave.proofs.CallsLemmas.{done_joined, stopped_after}
+use Rattle.slave.proofs.CallsLemmas.{done_joined, stopped_after, sound_then}
 use Rattle.rmx_media.specs.declared.packet.Packet.{Packet}
 use Rattle.slave.specs.Origin.{Origin}
 use Rattle.slave.specs.declared.records.SessionNote.{SessionNote}
@@ -20,13 +20,13 @@ use Rattle.rmx_edge.specs.Count.{raised, Rose}
 use Rattle.rmx_edge.specs.Counted.{with_count}
 use Rattle.rmx_edge.proofs.Run.{rose_later}
 use Rattle.fifo_core.specs.declared.types.EndState.TheVariants as ends
-use Rattle.slave.specs.Job.{JobView, note_at}
+use Rattle.slave.specs.Job.{JobView, SoundStays, note_at}
 use Rattle.slave.specs.Table.{EndFailed, Closed, Row, calls_of, RowHolds, AllRows, Chain, row_note, row_fault, row_packets, written_of, Numbered}
 use Rattle.slave.proofs.Rows.{map_push, faults_push_none, faults_push_some, packets_push, chain_last, rows_push, rows_front, numbered_push, numbered_last, numbered_front}
 use Rattle.slave.specs.Table.{Keeps}
 use Rattle.fifo_core.specs.History.{is_live, end_of}
 use Rattle.slave.specs.Job.{Closes}
-use Rattle.slave.specs.End.{EndView, EndsAs, EndNotes, Ended}
+use Rattle.slave.specs.End.{EndView, EndsAs, EndNotes, EndedBy}
 use Rattle.slave.proofs.Steps.{open_row}
 
 live_bools : (w : Bool) (m : Mode) (b : Bool) → b ≡ true → b ≡ (if w then false else mode_is_live m) → (w ≡ false) × (m ≡ Live)
@@ -63,42 +63,49 @@ pub record EndTells (v : JobView) (e : EndView) : Type 0 where
 same_want_counts : {v : JobView} {e : EndView} (k : EndTells v e) → e.shelf.wants ≡ v.shelf.wants
 same_want_counts k = ap (λ (s : ShelfState). s.wants) k.shelf
 
+told_sound : {v : JobView} {e : EndView} (first : ShelfState) (k : EndTells v e) → SoundStays first v.shelf → first.sound ≡ true → e.shelf.faults ≡ first.faults
+told_sound first k s x = ap (λ (y : ShelfState). y.faults) k.shelf ∙ (s x).1
+
 -- the muxer's end was not called
 pub ended_closed : {out : Origin} {o : FifoOptions} {L : List Packet} (v : JobView) (e : EndView) (k : Keeps out o L v) (b : Bool) → b ≡ false → b ≡ is_live o k.history
-    → EndTells v e → e.state ≡ end_of k.history None → Ended out o L e
-ended_closed v e k b shut is_b told st =
-    let t = k.stands.table in
-    record {
-      history = k.history;
-      follows = k.follows;
-      count = k.stands.count;
-      indexed = k.stands.indexed;
-      order = rw told.fates k.stands.order;
-      end_answer = None;
-      end_called = sym shut ∙ is_b;
-      state = st;
-      fates = rw told.fates t.fates;
-      rows = t.rows;
-      front = t.last.front;
-      last = t.last.last;
-      split = t.last.split;
-      numbered = t.numbered;
-      number = t.last.number;
-      ends_as = tt;
-      are_sessions = told.sessions ∙ t.are_sessions;
-      are_faults = told.faults ∙ t.are_faults;
-      counts = k.stands.kit.counts;
-      before = told.before;
-      added = told.added;
-      chain = rw told.shelf t.chain;
-      bytes = told.bytes;
-      each = t.each;
-      packets = t.packets ∙ append-nil _;
-      notes = rw told.faults t.notes;
-      inline = told.inline;
-      wants = rw (same_want_counts told) t.wants;
-      excuse = λ x none. rw (same_want_counts told) (t.excuse (want_shown (wanted k.history) (sym st ∙ x)) (sym told.faults ∙ none));
-    }
+    → EndTells v e → e.state ≡ end_of k.history None → EndedBy out o L k.history e
+ended_closed {out = out} v e k b shut is_b told st =
+    let t = k.stands.table in (
+      record {
+        history = k.history;
+        follows = k.follows;
+        count = k.stands.count;
+        indexed = k.stands.indexed;
+        order = rw told.fates k.stands.order;
+        end_answer = None;
+        end_called = sym shut ∙ is_b;
+        state = st;
+        fates = rw told.fates t.fates;
+        rows = t.rows;
+        front = t.last.front;
+        last = t.last.last;
+        split = t.last.split;
+        numbered = t.numbered;
+        number = t.last.number;
+        ends_as = tt;
+        are_sessions = told.sessions ∙ t.are_sessions;
+        are_faults = told.faults ∙ t.are_faults;
+        counts = k.stands.kit.counts;
+        before = told.before;
+        added = told.added;
+        chain = rw told.shelf t.chain;
+        bytes = told.bytes;
+        each = t.each;
+        packets = t.packets ∙ append-nil _;
+        notes = rw told.faults t.notes;
+        inline = told.inline;
+        sound = told_sound out.shelf told t.sound;
+        safe = λ x. told.faults ∙ t.safe x;
+        wants = rw (same_want_counts told) t.wants;
+        excuse = λ x none. rw (same_want_counts told) (t.excuse (want_shown (wanted k.history) (sym st ∙ x)) (sym told.faults ∙ none));
+      },
+      refl,
+    )
 
 end_wanted : (a : Answer) (h : History) → end_of h (Some a) ≡ ends.NoMemory → a ≡ answer.NoMemory
 end_wanted answer.Done h e = absurd (cc e)
@@ -110,13 +117,18 @@ wants_at answer.Done v w c e = absurd (cc e)
 wants_at answer.Fault v w c e = absurd (cc e)
 wants_at answer.NoMemory v w c e = c.made.4
 
+no_note : {out : Origin} {before : List Packet} (b : Answer) (v w : JobView) → Closes out before v b w → v.faults ≡ [] → (b ≡ answer.Fault → ⊥) → w.faults ≡ []
+no_note answer.Done v w c none fine = c.made.2 ∙ none
+no_note answer.Fault v w c none fine = absurd (fine refl)
+no_note answer.NoMemory v w c none fine = c.made.2 ∙ none
+
 module _ {out : Origin} {o : FifoOptions} {L : List Packet} (v w : JobView) (e : EndView) (k : Keeps out o L v) (u : wanted k.history ≡ false) (live : mode_of o k.history ≡ Live)
     (told : EndTells w e) where
   closing : (b : Answer) (q : Row) → Closes out k.stands.table.last.last.written v b w → e.state ≡ end_of k.history (Some b) → is_live o k.history ≡ true
       → q.note.number ≡ k.stands.table.last.last.note.number → q.before ≡ k.stands.table.last.last.before → q.after ≡ w.shelf → RowHolds out L q
       → q.written ≡ k.stands.table.last.last.written → EndsAs (Some b) q
       → w.sessions ≡ map row_note (k.stands.table.last.front ++ q ∷ []) → w.faults ≡ filter_map row_fault (k.stands.table.last.front ++ q ∷ [])
-      → EndNotes k.history (Some b) w.faults → Ended out o L e
+      → EndNotes k.history (Some b) w.faults → EndedBy out o L k.history e
   closing b q c st is_open same_number same_before is_after holds same_written ends_so ss fs ns =
       let t = k.stands.table in
       let fr = t.last.front in
@@ -124,41 +136,45 @@ module _ {out : Origin} {o : FifoOptions} {L : List Packet} (v w : JobView) (e :
       let chained : Chain out.shelf (fr ++ x ∷ []) v.shelf = rw t.last.split at t.chain in
       let all : AllRows out L (fr ++ x ∷ []) = rw t.last.split at t.each in
       let numbers : Numbered 0 (fr ++ x ∷ []) = rw t.last.split at t.numbered in
-      let before : flat_map row_packets (fr ++ x ∷ []) ≡ written_of L (fates_of k.history) ++ [] = rw t.last.split at t.packets in
-      record {
-        history = k.history;
-        follows = k.follows;
-        count = k.stands.count;
-        indexed = k.stands.indexed;
-        order = rw (told.fates, c.runs) k.stands.order;
-        end_answer = Some b;
-        end_called = sym is_open;
-        state = st;
-        fates = rw (told.fates, c.runs) t.fates;
-        rows = fr ++ q ∷ [];
-        front = fr;
-        last = q;
-        split = refl;
-        numbered = numbered_push 0 fr q (numbered_front 0 fr x numbers) (same_number ∙ numbered_last 0 fr x numbers);
-        number = same_number ∙ t.last.number;
-        ends_as = ends_so;
-        are_sessions = told.sessions ∙ ss;
-        are_faults = told.faults ∙ fs;
-        counts = k.stands.kit.counts;
-        before = told.before;
-        added = told.added;
-        chain = rw (told.shelf, ← is_after) (chain_last out.shelf v.shelf fr x q chained same_before);
-        bytes = told.bytes;
-        each = rows_push out L fr q (rows_front out L fr x all) holds;
-        packets = packets_push fr q ∙ rw (same_number, same_written) (sym (packets_push fr x) ∙ before ∙ append-nil (written_of L (fates_of k.history)));
-        notes = rw told.faults ns;
-        inline = told.inline;
-        wants = rw (same_want_counts told) (omega (arith, t.wants, c.want_counts));
-        excuse = λ y none. rw (same_want_counts told)
-            (rose_later out.shelf.wants v.shelf.wants w.shelf.wants t.wants (wants_at b v w c (end_wanted b k.history (sym st ∙ y))));
-      }
+      let before : flat_map row_packets (fr ++ x ∷ []) ≡ written_of L (fates_of k.history) ++ [] = rw t.last.split at t.packets in (
+        record {
+          history = k.history;
+          follows = k.follows;
+          count = k.stands.count;
+          indexed = k.stands.indexed;
+          order = rw (told.fates, c.runs) k.stands.order;
+          end_answer = Some b;
+          end_called = sym is_open;
+          state = st;
+          fates = rw (told.fates, c.runs) t.fates;
+          rows = fr ++ q ∷ [];
+          front = fr;
+          last = q;
+          split = refl;
+          numbered = numbered_push 0 fr q (numbered_front 0 fr x numbers) (same_number ∙ numbered_last 0 fr x numbers);
+          number = same_number ∙ t.last.number;
+          ends_as = ends_so;
+          are_sessions = told.sessions ∙ ss;
+          are_faults = told.faults ∙ fs;
+          counts = k.stands.kit.counts;
+          before = told.before;
+          added = told.added;
+          chain = rw (told.shelf, ← is_after) (chain_last out.shelf v.shelf fr x q chained same_before);
+          bytes = told.bytes;
+          each = rows_push out L fr q (rows_front out L fr x all) holds;
+          packets = packets_push fr q ∙ rw (same_number, same_written) (sym (packets_push fr x) ∙ before ∙ append-nil (written_of L (fates_of k.history)));
+          notes = rw told.faults ns;
+          inline = told.inline;
+          sound = told_sound out.shelf told (sound_then out.shelf v.shelf w.shelf t.sound c.sound);
+          safe = λ x. told.faults ∙ no_note b v w c (t.safe x) (c.safe (t.sound x).0);
+          wants = rw (same_want_counts told) (omega (arith, t.wants, c.want_counts));
+          excuse = λ y none. rw (same_want_counts told)
+              (rose_later out.shelf.wants v.shelf.wants w.shelf.wants t.wants (wants_at b v w c (end_wanted b k.history (sym st ∙ y))));
+        },
+        refl,
+      )
 
-  pub ended_live : (b : Answer) → Closes out k.stands.table.last.last.written v b w → e.state ≡ end_of k.history (Some b) → is_live o k.history ≡ true → Ended out o L e
+  pub ended_live : (b : Answer) → Closes out k.stands.table.last.last.written v b w → e.state ≡ end_of k.history (Some b) → is_live o k.history ≡ true → EndedBy out o L k.history e
   ended_live answer.Done c st is_open =
       let t = k.stands.table in
       let fr = t.last.front in

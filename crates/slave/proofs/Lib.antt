@@ -3,10 +3,13 @@ pub mod Begin
 pub mod CallsLemmas
 pub mod Faultless
 pub mod Finish
+pub mod GivenUp
+pub mod Later
 pub mod Lists
 pub mod Room
 pub mod Past
 pub mod Rows
+pub mod Sound
 pub mod Start
 pub mod Steps
 pub mod Turns

@@ -33,13 +33,13 @@ same_wants : {out : Origin} {o : FifoOptions} {v : JobView} → IsFresh out o v 
 same_wants k = rw (← k.shelf) (omega arith)
 
 first_table : {out : Origin} {o : FifoOptions} (a : Answer) (v w : JobView) → IsFresh out o v → Opens out v a w
-    → Table out o [] (Begun a ∷ []) [] w.shelf w.kit.mux w.runs w.sessions w.faults
+    → Table out o [] (Begun a ∷ []) [] w.shelf w.kit.writer w.runs w.sessions w.faults
 first_table {out = out} {o = o} answer.Done v w k c =
     let s = session_in v.fifo in
     let q : Row = record { note = record { number = s; begun = true; closed = false }; outcome = Open; fault = None; written = []; before = v.shelf; after = w.shelf } in
     record {
       rows = q ∷ [];
-      last = record { front = []; last = q; split = refl; number = k.shows.session; is_open = λ _ _. (refl, c.mux refl) };
+      last = record { front = []; last = q; split = refl; number = k.shows.session; is_open = λ _ _. (refl, c.writer refl) };
       numbered = (k.shows.session, tt);
       are_sessions = c.sessions ∙ rw k.sessions refl;
       are_faults = c.made.2 ∙ k.faults;
@@ -49,6 +49,8 @@ first_table {out = out} {o = o} answer.Done v w k c =
       fates = rw (c.runs, k.runs) refl;
       notes = c.made.2 ∙ k.faults;
       writing = λ _. c.made.1;
+      sound = rw k.shelf at c.sound;
+      safe = λ e. c.made.2 ∙ k.faults;
       wants = omega (arith, same_wants k, c.want_counts);
       excuse = λ x. absurd (cc x);
     }
@@ -67,6 +69,8 @@ first_table {out = out} {o = o} answer.Fault v w k c =
       fates = rw (c.runs, k.runs) refl;
       notes = (v.faults, n, c.made.2, k.shows.session, refl, k.faults);
       writing = λ _. c.made.1 ∙ sym (begun_shut o);
+      sound = rw k.shelf at c.sound;
+      safe = λ e. absurd (c.safe (rw k.shelf e) refl);
       wants = omega (arith, same_wants k, c.want_counts);
       excuse = λ x. absurd (cc x);
     }
@@ -84,6 +88,8 @@ first_table {out = out} {o = o} answer.NoMemory v w k c =
       fates = rw (c.runs, k.runs) refl;
       notes = c.made.2 ∙ k.faults;
       writing = λ u. absurd (cc u);
+      sound = rw k.shelf at c.sound;
+      safe = λ e. c.made.2 ∙ k.faults;
       wants = omega (arith, same_wants k, c.want_counts);
       excuse = λ x e. rose_later out.shelf.wants v.shelf.wants w.shelf.wants (same_wants k) c.made.4;
     }

@@ -20,11 +20,10 @@ use Rattle.slave.specs.declared.records.Run.{Run}
 use Rattle.slave.specs.declared.records.SessionNote.{SessionNote}
 use Rattle.slave.specs.declared.records.FaultAt.TheVariants.{Begin, Put}
 use Rattle.slave.specs.declared.records.FaultNote.{FaultNote}
-use Rattle.slave.specs.Calls.{begin_calls, put_calls, puts, MuxAfter}
+use Rattle.slave.specs.Calls.{begin_calls, put_calls, puts}
 use Rattle.slave.specs.Runs.{expand}
-use Rattle.slave.specs.declared.mux.Mux.{Mux}
-use Rattle.slave.specs.Job.{JobView, note_at, Puts, OpensAndPuts}
-use Rattle.slave.proofs.CallsLemmas.{done_joined, stopped_after, first_puts, no_puts}
+use Rattle.slave.specs.Job.{JobView, Writer, WriterAfter, SoundStays, note_at, Puts, OpensAndPuts}
+use Rattle.slave.proofs.CallsLemmas.{done_joined, stopped_after, first_puts, no_puts, sound_then}
 use Rattle.slave.specs.Table.{Outcome, Open, NotBegun, PutFailed, Row, calls_of, LeftBy, RowHolds, AllRows, Chain, row_note, row_fault, row_packets, if_written, written_of, NotesTell, Table, ahead_of, Numbered}
 use Rattle.slave.proofs.Rows.{map_push, faults_push_none, faults_push_some, packets_push, puts_push, chain_next, chain_last, chain_end, rows_push, rows_front, rows_last, rows_more, written_more, written_push, open_no_fault, numbered_push, numbered_last, numbered_front}
 
@@ -40,8 +39,8 @@ pub not_live : (o : FifoOptions) (h : History) → mode_is_live (mode_of o h) �
 not_live o h e d = let t : true ≡ false = rw d at e in cc t
 
 -- packets that come later change nothing
-pub widened : {out : Origin} {o : FifoOptions} {L : List Packet} {h : History} {shelf : ShelfState} {mux : Mux} {runs : List Run} {sessions : List SessionNote} {faults : List FaultNote}
-    (p : Packet) → length (fates_of h) ≡ length L → Table out o L h [] shelf mux runs sessions faults → Table out o (L ++ p ∷ []) h [] shelf mux runs sessions faults
+pub widened : {out : Origin} {o : FifoOptions} {L : List Packet} {h : History} {shelf : ShelfState} {writer : Writer} {runs : List Run} {sessions : List SessionNote} {faults : List FaultNote}
+    (p : Packet) → length (fates_of h) ≡ length L → Table out o L h [] shelf writer runs sessions faults → Table out o (L ++ p ∷ []) h [] shelf writer runs sessions faults
 widened {out = out} {L = L} {h = h} p e t = record {
   rows = t.rows;
   last = t.last;
@@ -54,15 +53,17 @@ widened {out = out} {L = L} {h = h} p e t = record {
   fates = t.fates;
   notes = t.notes;
   writing = t.writing;
+  sound = t.sound;
+  safe = t.safe;
   wants = t.wants;
   excuse = t.excuse;
 }
 
 -- the fate of the last packet is recorded
-pub recorded : {out : Origin} {o : FifoOptions} {h : History} {shelf : ShelfState} {mux : Mux} {runs new : List Run} {sessions : List SessionNote} {faults : List FaultNote}
+pub recorded : {out : Origin} {o : FifoOptions} {h : History} {shelf : ShelfState} {writer : Writer} {runs new : List Run} {sessions : List SessionNote} {faults : List FaultNote}
     (L : List Packet) (p : Packet) (f : Fate) → length (fates_of h) ≡ length L
-    → Table out o (L ++ p ∷ []) h (if_written p f) shelf mux runs sessions faults → expand new ≡ expand runs ++ (length L, f) ∷ []
-    → Table out o (L ++ p ∷ []) (Fated (length L) f ∷ h) [] shelf mux new sessions faults
+    → Table out o (L ++ p ∷ []) h (if_written p f) shelf writer runs sessions faults → expand new ≡ expand runs ++ (length L, f) ∷ []
+    → Table out o (L ++ p ∷ []) (Fated (length L) f ∷ h) [] shelf writer new sessions faults
 recorded {h = h} L p f e t d = record {
   rows = t.rows;
   last = record { front = t.last.front; last = t.last.last; split = t.last.split; number = t.last.number; is_open = t.last.is_open };
@@ -75,6 +76,8 @@ recorded {h = h} L p f e t d = record {
   fates = d ∙ rw t.fates refl;
   notes = t.notes;
   writing = t.writing;
+  sound = t.sound;
+  safe = t.safe;
   wants = t.wants;
   excuse = t.excuse;
 }
@@ -97,9 +100,9 @@ pub is_noted : (s i : ℕ) (facts : PacketFacts) (h : History) (ns : List FaultN
 is_noted s i facts h ns t e = not_empty t.0 t.1 (sym e ∙ t.2)
 
 -- memory was wanted before the fault of the packet in hand, as the history tells it
-pub want_before : {out : Origin} {o : FifoOptions} {L : List Packet} {h : History} {ahead : List (ℕ × Packet)} {shelf : ShelfState} {mux : Mux} {runs : List Run} {sessions : List SessionNote} {faults : List FaultNote}
+pub want_before : {out : Origin} {o : FifoOptions} {L : List Packet} {h : History} {ahead : List (ℕ × Packet)} {shelf : ShelfState} {writer : Writer} {runs : List Run} {sessions : List SessionNote} {faults : List FaultNote}
     (s i : ℕ) (facts : PacketFacts)
-    → Table out o L (Tried s i facts answer.Fault ∷ h) ahead shelf mux runs sessions faults → Table out o L (Tried s i facts answer.Fault ∷ Want ∷ h) ahead shelf mux runs sessions faults
+    → Table out o L (Tried s i facts answer.Fault ∷ h) ahead shelf writer runs sessions faults → Table out o L (Tried s i facts answer.Fault ∷ Want ∷ h) ahead shelf writer runs sessions faults
 want_before {h = h} {faults = faults} s i facts t = record {
   rows = t.rows;
   last = record { front = t.last.front; last = t.last.last; split = t.last.split; number = t.last.number; is_open = λ w. absurd (wanted_so s i facts answer.Fault h w) };
@@ -112,12 +115,14 @@ want_before {h = h} {faults = faults} s i facts t = record {
   fates = t.fates;
   notes = noted_want s i facts h faults t.notes;
   writing = λ w. absurd (wanted_so s i facts answer.Fault h w);
+  sound = t.sound;
+  safe = t.safe;
   wants = t.wants;
   excuse = λ w e. absurd (is_noted s i facts h faults t.notes e);
 }
 
-pub want_now : {out : Origin} {o : FifoOptions} {L : List Packet} {h : History} {ahead : List (ℕ × Packet)} {shelf : ShelfState} {mux : Mux} {runs : List Run} {sessions : List SessionNote} {faults : List FaultNote}
-    → Table out o L h ahead shelf mux runs sessions faults → (faults ≡ [] → Rose out.shelf.wants shelf.wants) → Table out o L (Want ∷ h) ahead shelf mux runs sessions faults
+pub want_now : {out : Origin} {o : FifoOptions} {L : List Packet} {h : History} {ahead : List (ℕ × Packet)} {shelf : ShelfState} {writer : Writer} {runs : List Run} {sessions : List SessionNote} {faults : List FaultNote}
+    → Table out o L h ahead shelf writer runs sessions faults → (faults ≡ [] → Rose out.shelf.wants shelf.wants) → Table out o L (Want ∷ h) ahead shelf writer runs sessions faults
 want_now t excused = record {
   rows = t.rows;
   last = record { front = t.last.front; last = t.last.last; split = t.last.split; number = t.last.number; is_open = λ w. absurd (cc w) };
@@ -130,30 +135,32 @@ want_now t excused = record {
   fates = t.fates;
   notes = t.notes;
   writing = λ w. absurd (cc w);
+  sound = t.sound;
+  safe = t.safe;
   wants = t.wants;
   excuse = λ w e. excused e;
 }
 
 -- there is one session for each number up to the last that was tried
-session_count : {out : Origin} {o : FifoOptions} {L : List Packet} {h : History} {ahead : List (ℕ × Packet)} {shelf : ShelfState} {mux : Mux} {runs : List Run} {sessions : List SessionNote} {faults : List FaultNote}
-    (t : Table out o L h ahead shelf mux runs sessions faults) → session_of h + 1 ≡ 0 + length t.rows
+session_count : {out : Origin} {o : FifoOptions} {L : List Packet} {h : History} {ahead : List (ℕ × Packet)} {shelf : ShelfState} {writer : Writer} {runs : List Run} {sessions : List SessionNote} {faults : List FaultNote}
+    (t : Table out o L h ahead shelf writer runs sessions faults) → session_of h + 1 ≡ 0 + length t.rows
 session_count t =
     let numbers : Numbered 0 (t.last.front ++ t.last.last ∷ []) = rw t.last.split at t.numbered in
     let n = numbered_last 0 t.last.front t.last.last numbers in
     let l : length t.rows ≡ length t.last.front + 1 = rw t.last.split (length-append t.last.front (t.last.last ∷ [])) in
     omega (arith, n, l, t.last.number)
 
-module _ {out : Origin} {o : FifoOptions} {L : List Packet} {h : History} {shelf : ShelfState} {mux : Mux} {runs : List Run} {sessions : List SessionNote} {faults : List FaultNote}
-    (t : Table out o L h [] shelf mux runs sessions faults) (q : Row) (g : History) (ahead : List (ℕ × Packet)) (new : ShelfState) (new_mux : Mux)
+module _ {out : Origin} {o : FifoOptions} {L : List Packet} {h : History} {shelf : ShelfState} {writer : Writer} {runs : List Run} {sessions : List SessionNote} {faults : List FaultNote}
+    (t : Table out o L h [] shelf writer runs sessions faults) (q : Row) (g : History) (ahead : List (ℕ × Packet)) (new : ShelfState) (new_writer : Writer)
     (new_runs : List Run) (new_sessions : List SessionNote) (new_faults : List FaultNote) where
   -- the last session went on
   pub replaced : q.note ≡ t.last.last.note → q.before ≡ t.last.last.before → q.after ≡ new → RowHolds out L q
       → row_packets q ≡ row_packets t.last.last ++ ahead → new_sessions ≡ sessions → new_runs ≡ runs
       → new_faults ≡ filter_map row_fault (t.last.front ++ q ∷ []) → t.last.last.note.number ≡ session_of g
-      → (wanted g ≡ false → mode_of o g ≡ Live → (q.outcome ≡ Open) × MuxAfter out q.written new_mux) → fates_of g ≡ fates_of h → NotesTell g new_faults
-      → (wanted g ≡ false → new.writing ≡ mode_is_live (mode_of o g)) → shelf.wants ≤ new.wants
-      → (wanted g ≡ true → new_faults ≡ [] → Rose out.shelf.wants new.wants) → Table out o L g ahead new new_mux new_runs new_sessions new_faults
-  replaced same_note same_before is_after holds more is_sessions is_runs is_faults number is_open same_fates tells writes more_wants excused =
+      → (wanted g ≡ false → mode_of o g ≡ Live → (q.outcome ≡ Open) × WriterAfter out q.written new_writer) → fates_of g ≡ fates_of h → NotesTell g new_faults
+      → (wanted g ≡ false → new.writing ≡ mode_is_live (mode_of o g)) → SoundStays shelf new → (out.shelf.sound ≡ true → new_faults ≡ []) → shelf.wants ≤ new.wants
+      → (wanted g ≡ true → new_faults ≡ [] → Rose out.shelf.wants new.wants) → Table out o L g ahead new new_writer new_runs new_sessions new_faults
+  replaced same_note same_before is_after holds more is_sessions is_runs is_faults number is_open same_fates tells writes more_sound safely more_wants excused =
       let fr = t.last.front in
       let r = t.last.last in
       let chained : Chain out.shelf (fr ++ r ∷ []) shelf = rw t.last.split at t.chain in
@@ -173,6 +180,8 @@ module _ {out : Origin} {o : FifoOptions} {L : List Packet} {h : History} {shelf
         fates = rw (is_runs, same_fates) t.fates;
         notes = tells;
         writing = writes;
+        sound = sound_then out.shelf shelf new t.sound more_sound;
+        safe = safely;
         wants = omega (arith, t.wants, more_wants);
         excuse = excused;
       }
@@ -180,10 +189,10 @@ module _ {out : Origin} {o : FifoOptions} {L : List Packet} {h : History} {shelf
   -- a session began
   pub appended : q.before ≡ shelf → q.after ≡ new → RowHolds out L q → row_packets q ≡ ahead → new_sessions ≡ sessions ++ q.note ∷ [] → new_runs ≡ runs
       → new_faults ≡ filter_map row_fault (t.rows ++ q ∷ []) → q.note.number ≡ session_of h + 1 → q.note.number ≡ session_of g
-      → (wanted g ≡ false → mode_of o g ≡ Live → (q.outcome ≡ Open) × MuxAfter out q.written new_mux) → fates_of g ≡ fates_of h → NotesTell g new_faults
-      → (wanted g ≡ false → new.writing ≡ mode_is_live (mode_of o g)) → shelf.wants ≤ new.wants
-      → (wanted g ≡ true → new_faults ≡ [] → Rose out.shelf.wants new.wants) → Table out o L g ahead new new_mux new_runs new_sessions new_faults
-  appended is_before is_after holds more is_sessions is_runs is_faults next number is_open same_fates tells writes more_wants excused =
+      → (wanted g ≡ false → mode_of o g ≡ Live → (q.outcome ≡ Open) × WriterAfter out q.written new_writer) → fates_of g ≡ fates_of h → NotesTell g new_faults
+      → (wanted g ≡ false → new.writing ≡ mode_is_live (mode_of o g)) → SoundStays shelf new → (out.shelf.sound ≡ true → new_faults ≡ []) → shelf.wants ≤ new.wants
+      → (wanted g ≡ true → new_faults ≡ [] → Rose out.shelf.wants new.wants) → Table out o L g ahead new new_writer new_runs new_sessions new_faults
+  appended is_before is_after holds more is_sessions is_runs is_faults next number is_open same_fates tells writes more_sound safely more_wants excused =
       record {
         rows = t.rows ++ q ∷ [];
         last = record { front = t.rows; last = q; split = refl; number = number; is_open = is_open };
@@ -196,12 +205,14 @@ module _ {out : Origin} {o : FifoOptions} {L : List Packet} {h : History} {shelf
         fates = rw (is_runs, same_fates) t.fates;
         notes = tells;
         writing = writes;
+        sound = sound_then out.shelf shelf new t.sound more_sound;
+        safe = safely;
         wants = omega (arith, t.wants, more_wants);
         excuse = excused;
       }
 
 -- the session that is open
-pub record OpenRow (out : Origin) (o : FifoOptions) (h : History) (r : Row) (shelf : ShelfState) (m : Mux) : Type 0 where
+pub record OpenRow (out : Origin) (o : FifoOptions) (h : History) (r : Row) (shelf : ShelfState) (m : Writer) : Type 0 where
   pub begun : r.note.begun ≡ true
   pub closed : r.note.closed ≡ false
   pub done : Completed (calls_of out r) r.before shelf
@@ -209,10 +220,10 @@ pub record OpenRow (out : Origin) (o : FifoOptions) (h : History) (r : Row) (she
   pub counts : r.before.faults ≤ shelf.faults
   pub want_counts : r.before.wants ≤ shelf.wants
   pub number : r.note.number ≡ trying o h
-  pub mux : MuxAfter out r.written m
+  pub writer : WriterAfter out r.written m
 
-pub open_row : {out : Origin} {o : FifoOptions} {L : List Packet} {h : History} {shelf : ShelfState} {mux : Mux} {runs : List Run} {sessions : List SessionNote} {faults : List FaultNote}
-    (t : Table out o L h [] shelf mux runs sessions faults) → wanted h ≡ false → mode_of o h ≡ Live → OpenRow out o h t.last.last shelf mux
+pub open_row : {out : Origin} {o : FifoOptions} {L : List Packet} {h : History} {shelf : ShelfState} {writer : Writer} {runs : List Run} {sessions : List SessionNote} {faults : List FaultNote}
+    (t : Table out o L h [] shelf writer runs sessions faults) → wanted h ≡ false → mode_of o h ≡ Live → OpenRow out o h t.last.last shelf writer
 open_row {out = out} {o = o} {L = L} {h = h} {shelf = shelf} t u live =
     let fr = t.last.front in
     let r = t.last.last in
@@ -230,7 +241,7 @@ open_row {out = out} {o = o} {L = L} {h = h} {shelf = shelf} t u live =
       counts = subst (λ (x : ShelfState). r.before.faults ≤ x.faults) at_end holds.2;
       want_counts = subst (λ (x : ShelfState). r.before.wants ≤ x.wants) at_end holds.3;
       number = t.last.number ∙ sym (live_trying o h live);
-      mux = is_open.1;
+      writer = is_open.1;
     }
 
 no_want : {A : Type 0} (w : Bool) → w ≡ false → w ≡ true → A
@@ -239,9 +250,9 @@ no_want false u e = absurd (cc e)
 
 -- the last packet was tried in the open session
 pub put_made : {out : Origin} {o : FifoOptions} {L : List Packet} {h : History} (i : ℕ) (p : Packet) (facts : PacketFacts) (a : Answer) (v w : JobView)
-    (t : Table out o L h [] v.shelf v.kit.mux v.runs v.sessions v.faults) → wanted h ≡ false → mode_of o h ≡ Live → slice_get L i ≡ Some p
+    (t : Table out o L h [] v.shelf v.kit.writer v.runs v.sessions v.faults) → wanted h ≡ false → mode_of o h ≡ Live → slice_get L i ≡ Some p
     → session_in v.fifo ≡ trying o h → Puts out t.last.last.written p (Put i) v a w
-    → Table out o L (Tried (trying o h) i facts a ∷ h) (ahead_of (trying o h) p a) w.shelf w.kit.mux w.runs w.sessions w.faults
+    → Table out o L (Tried (trying o h) i facts a ∷ h) (ahead_of (trying o h) p a) w.shelf w.kit.writer w.runs w.sessions w.faults
 put_made {out = out} {o = o} {L = L} {h = h} i p facts answer.Done v w t u live at in_session made =
     let c = made.calls in
     let fr = t.last.front in
@@ -250,7 +261,7 @@ put_made {out = out} {o = o} {L = L} {h = h} i p facts answer.Done v w t u live 
     let q : Row = record { note = r.note; outcome = Open; fault = None; written = r.written ++ p ∷ []; before = r.before; after = w.shelf } in
     let calls : calls_of out q ≡ calls_of out r ++ put_calls out r.written p =
     ap (λ (cs : List ShelfCall). begin_calls out r.note.number ++ cs) (puts_push out r.written p) ∙ sym (append_assoc (begin_calls out r.note.number) (puts out r.written) (put_calls out r.written p)) in
-    replaced t q (Tried (trying o h) i facts answer.Done ∷ h) ((trying o h, p) ∷ []) w.shelf w.kit.mux w.runs w.sessions w.faults
+    replaced t q (Tried (trying o h) i facts answer.Done ∷ h) ((trying o h, p) ∷ []) w.shelf w.kit.writer w.runs w.sessions w.faults
     refl refl refl (
       (k.begun, k.closed, rw calls (done_joined (calls_of out r) (put_calls out r.written p) r.before v.shelf w.shelf k.done c.made.0)),
       λ e. absurd (cc e),
@@ -260,7 +271,7 @@ put_made {out = out} {o = o} {L = L} {h = h} i p facts answer.Done v w t u live 
     (map_push (λ (x : Packet). (r.note.number, x)) r.written p ∙ ap (λ (n : ℕ). row_packets r ++ (n, p) ∷ []) k.number)
     c.sessions c.runs
     (c.made.2 ∙ t.are_faults ∙ rw t.last.split (faults_push_none fr r k.no_fault ∙ sym (faults_push_none fr q refl)))
-    k.number (λ _ _. (refl, made.mux refl)) refl (rw c.made.2 t.notes) (λ _. c.made.1) c.want_counts (λ x e. no_want (wanted h) u x)
+    k.number (λ _ _. (refl, made.writer refl)) refl (rw c.made.2 t.notes) (λ _. c.made.1) c.sound (λ e. c.made.2 ∙ t.safe e) c.want_counts (λ x e. no_want (wanted h) u x)
 put_made {out = out} {o = o} {L = L} {h = h} i p facts answer.Fault v w t u live at in_session made =
     let c = made.calls in
     let fr = t.last.front in
@@ -269,7 +280,7 @@ put_made {out = out} {o = o} {L = L} {h = h} i p facts answer.Fault v w t u live
     let n = note_at v (Put i) w in
     let q : Row = record { note = r.note; outcome = PutFailed i p; fault = Some n; written = r.written; before = r.before; after = w.shelf } in
     let shut = fault_closes o h (trying o h) i facts in
-    replaced t q (Tried (trying o h) i facts answer.Fault ∷ h) [] w.shelf w.kit.mux w.runs w.sessions w.faults
+    replaced t q (Tried (trying o h) i facts answer.Fault ∷ h) [] w.shelf w.kit.writer w.runs w.sessions w.faults
     refl refl refl (
       (k.begun, k.closed, at, stopped_after (calls_of out r) (put_calls out r.written p) r.before v.shelf w.shelf k.done c.made.0),
       (in_session ∙ sym k.number, refl, c.counts, c.made.4, k.counts, refl),
@@ -280,14 +291,14 @@ put_made {out = out} {o = o} {L = L} {h = h} i p facts answer.Fault v w t u live
     c.sessions c.runs
     (c.made.2 ∙ ap (λ (ns : List FaultNote). ns ++ n ∷ []) (t.are_faults ∙ rw t.last.split (faults_push_none fr r k.no_fault)) ∙ sym (faults_push_some fr q n refl))
     k.number (λ _ l. absurd (not_live o (Tried (trying o h) i facts answer.Fault ∷ h) shut l)) refl
-    (v.faults, n, c.made.2, in_session, inl refl, t.notes) (λ _. c.made.1 ∙ sym shut) c.want_counts (λ x e. no_want (wanted h) u x)
+    (v.faults, n, c.made.2, in_session, inl refl, t.notes) (λ _. c.made.1 ∙ sym shut) c.sound (λ e. absurd (c.safe (t.sound e).0 refl)) c.want_counts (λ x e. no_want (wanted h) u x)
 put_made {out = out} {o = o} {L = L} {h = h} i p facts answer.NoMemory v w t u live at in_session made =
     let c = made.calls in
     let fr = t.last.front in
     let r = t.last.last in
     let k = open_row t u live in
     let q : Row = record { note = r.note; outcome = PutFailed i p; fault = None; written = r.written; before = r.before; after = w.shelf } in
-    replaced t q (Tried (trying o h) i facts answer.NoMemory ∷ h) [] w.shelf w.kit.mux w.runs w.sessions w.faults
+    replaced t q (Tried (trying o h) i facts answer.NoMemory ∷ h) [] w.shelf w.kit.writer w.runs w.sessions w.faults
     refl refl refl (
       (k.begun, k.closed, at, stopped_after (calls_of out r) (put_calls out r.written p) r.before v.shelf w.shelf k.done c.made.0),
       λ e. rose_later r.before.wants v.shelf.wants w.shelf.wants k.want_counts c.made.4,
@@ -297,7 +308,7 @@ put_made {out = out} {o = o} {L = L} {h = h} i p facts answer.NoMemory v w t u l
     (sym (append-nil (row_packets r)))
     c.sessions c.runs
     (c.made.2 ∙ t.are_faults ∙ rw t.last.split (faults_push_none fr r k.no_fault ∙ sym (faults_push_none fr q refl)))
-    k.number (λ x. absurd (cc x)) refl (rw c.made.2 t.notes) (λ x. absurd (cc x)) c.want_counts
+    k.number (λ x. absurd (cc x)) refl (rw c.made.2 t.notes) (λ x. absurd (cc x)) c.sound (λ e. c.made.2 ∙ t.safe e) c.want_counts
     (λ x e. rose_later out.shelf.wants v.shelf.wants w.shelf.wants t.wants c.made.4)
 
 next_differs : (s n : ℕ) → s ≡ n + 1 → s ≢ n
@@ -305,16 +316,16 @@ next_differs s n e d = omega (arith, e, d)
 
 -- the last packet was tried in a new session
 pub opened_put : {out : Origin} {o : FifoOptions} {L : List Packet} {h : History} (i : ℕ) (p : Packet) (facts : PacketFacts) (a : Answer) (v w : JobView)
-    → Table out o L h [] v.shelf v.kit.mux v.runs v.sessions v.faults → wanted h ≡ false → slice_get L i ≡ Some p → session_in v.fifo ≡ trying o h → trying o h ≡ session_of h + 1
+    → Table out o L h [] v.shelf v.kit.writer v.runs v.sessions v.faults → wanted h ≡ false → slice_get L i ≡ Some p → session_in v.fifo ≡ trying o h → trying o h ≡ session_of h + 1
     → OpensAndPuts out p (Put i) v a w
-    → Table out o L (Tried (trying o h) i facts a ∷ h) (ahead_of (trying o h) p a) w.shelf w.kit.mux w.runs w.sessions w.faults
+    → Table out o L (Tried (trying o h) i facts a ∷ h) (ahead_of (trying o h) p a) w.shelf w.kit.writer w.runs w.sessions w.faults
 opened_put {out = out} {o = o} {h = h} i p facts answer.Done v w t u at in_session next (inl m) =
     let mid = m.0 in
     let op = m.1 in
     let c = m.2.calls in
     let s = session_in v.fifo in
     let q : Row = record { note = record { number = s; begun = true; closed = false }; outcome = Open; fault = None; written = p ∷ []; before = v.shelf; after = w.shelf } in
-    appended t q (Tried (trying o h) i facts answer.Done ∷ h) ((trying o h, p) ∷ []) w.shelf w.kit.mux w.runs w.sessions w.faults
+    appended t q (Tried (trying o h) i facts answer.Done ∷ h) ((trying o h, p) ∷ []) w.shelf w.kit.writer w.runs w.sessions w.faults
     refl refl (
       (refl, refl, rw (first_puts out s p) (done_joined (begin_calls out s) (put_calls out [] p) v.shelf mid.shelf w.shelf op.made.0 c.made.0)),
       λ e. absurd (cc e),
@@ -324,8 +335,8 @@ opened_put {out = out} {o = o} {h = h} i p facts answer.Done v w t u at in_sessi
     (ap (λ (n : ℕ). (n, p) ∷ []) in_session)
     (c.sessions ∙ op.sessions) (c.runs ∙ op.runs)
     (c.made.2 ∙ op.made.2 ∙ t.are_faults ∙ sym (faults_push_none t.rows q refl))
-    (in_session ∙ next) in_session (λ _ _. (refl, m.2.mux refl)) refl (rw (c.made.2, op.made.2) t.notes) (λ _. c.made.1)
-    (omega (arith, op.want_counts, c.want_counts)) (λ x e. no_want (wanted h) u x)
+    (in_session ∙ next) in_session (λ _ _. (refl, m.2.writer refl)) refl (rw (c.made.2, op.made.2) t.notes) (λ _. c.made.1)
+    (sound_then v.shelf mid.shelf w.shelf op.sound c.sound) (λ e. c.made.2 ∙ op.made.2 ∙ t.safe e) (omega (arith, op.want_counts, c.want_counts)) (λ x e. no_want (wanted h) u x)
 opened_put {out = out} {o = o} {h = h} i p facts answer.Fault v w t u at in_session next (inl m) =
     let mid = m.0 in
     let op = m.1 in
@@ -335,7 +346,7 @@ opened_put {out = out} {o = o} {h = h} i p facts answer.Fault v w t u at in_sess
     let same : session_in mid.fifo ≡ s = ap session_in op.fifo in
     let q : Row = record { note = record { number = s; begun = true; closed = false }; outcome = PutFailed i p; fault = Some n; written = []; before = v.shelf; after = w.shelf } in
     let shut = fault_closes o h (trying o h) i facts in
-    appended t q (Tried (trying o h) i facts answer.Fault ∷ h) [] w.shelf w.kit.mux w.runs w.sessions w.faults
+    appended t q (Tried (trying o h) i facts answer.Fault ∷ h) [] w.shelf w.kit.writer w.runs w.sessions w.faults
     refl refl (
       (refl, refl, at, rw (no_puts out s) (stopped_after (begin_calls out s) (put_calls out [] p) v.shelf mid.shelf w.shelf op.made.0 c.made.0)),
       (same, refl, c.counts, c.made.4, op.counts, refl),
@@ -347,7 +358,7 @@ opened_put {out = out} {o = o} {h = h} i p facts answer.Fault v w t u at in_sess
     (c.made.2 ∙ ap (λ (ns : List FaultNote). ns ++ n ∷ []) (op.made.2 ∙ t.are_faults) ∙ sym (faults_push_some t.rows q n refl))
     (in_session ∙ next) in_session (λ _ l. absurd (not_live o (Tried (trying o h) i facts answer.Fault ∷ h) shut l)) refl
     (mid.faults, n, c.made.2, same ∙ in_session, inl refl, rw op.made.2 t.notes) (λ _. c.made.1 ∙ sym shut)
-    (omega (arith, op.want_counts, c.want_counts)) (λ x e. no_want (wanted h) u x)
+    (sound_then v.shelf mid.shelf w.shelf op.sound c.sound) (λ e. absurd (c.safe (op.sound (t.sound e).0).0 refl)) (omega (arith, op.want_counts, c.want_counts)) (λ x e. no_want (wanted h) u x)
 opened_put {out = out} {o = o} {h = h} i p facts answer.NoMemory v w t u at in_session next (inl m) =
     let mid = m.0 in
     let op = m.1 in
@@ -355,7 +366,7 @@ opened_put {out = out} {o = o} {h = h} i p facts answer.NoMemory v w t u at in_s
     let s = session_in v.fifo in
     let before : out.shelf.wants ≤ mid.shelf.wants = omega (arith, t.wants, op.want_counts) in
     let q : Row = record { note = record { number = s; begun = true; closed = false }; outcome = PutFailed i p; fault = None; written = []; before = v.shelf; after = w.shelf } in
-    appended t q (Tried (trying o h) i facts answer.NoMemory ∷ h) [] w.shelf w.kit.mux w.runs w.sessions w.faults
+    appended t q (Tried (trying o h) i facts answer.NoMemory ∷ h) [] w.shelf w.kit.writer w.runs w.sessions w.faults
     refl refl (
       (refl, refl, at, rw (no_puts out s) (stopped_after (begin_calls out s) (put_calls out [] p) v.shelf mid.shelf w.shelf op.made.0 c.made.0)),
       λ e. rose_later v.shelf.wants mid.shelf.wants w.shelf.wants op.want_counts c.made.4,
@@ -366,7 +377,7 @@ opened_put {out = out} {o = o} {h = h} i p facts answer.NoMemory v w t u at in_s
     (c.sessions ∙ op.sessions) (c.runs ∙ op.runs)
     (c.made.2 ∙ op.made.2 ∙ t.are_faults ∙ sym (faults_push_none t.rows q refl))
     (in_session ∙ next) in_session (λ x. absurd (cc x)) refl (rw (c.made.2, op.made.2) t.notes) (λ x. absurd (cc x))
-    (omega (arith, op.want_counts, c.want_counts)) (λ x e. rose_later out.shelf.wants mid.shelf.wants w.shelf.wants before c.made.4)
+    (sound_then v.shelf mid.shelf w.shelf op.sound c.sound) (λ e. c.made.2 ∙ op.made.2 ∙ t.safe e) (omega (arith, op.want_counts, c.want_counts)) (λ x e. rose_later out.shelf.wants mid.shelf.wants w.shelf.wants before c.made.4)
 opened_put {o = o} {h = h} i p facts answer.Done v w t u at in_session next (inr m) = absurd (cc m.0)
 opened_put {out = out} {o = o} {h = h} i p facts answer.Fault v w t u at in_session next (inr m) =
     let op = m.1 in
@@ -374,20 +385,20 @@ opened_put {out = out} {o = o} {h = h} i p facts answer.Fault v w t u at in_sess
     let n = note_at v Begin w in
     let q : Row = record { note = record { number = s; begun = false; closed = false }; outcome = NotBegun; fault = Some n; written = []; before = v.shelf; after = w.shelf } in
     let shut = fault_closes o h (trying o h) i facts in
-    appended t q (Tried (trying o h) i facts answer.Fault ∷ h) [] w.shelf w.kit.mux w.runs w.sessions w.faults
+    appended t q (Tried (trying o h) i facts answer.Fault ∷ h) [] w.shelf w.kit.writer w.runs w.sessions w.faults
     refl refl
     ((refl, refl, refl, op.made.0), (refl, refl, op.counts, op.made.4, omega arith, refl), op.counts, op.want_counts)
     refl op.sessions op.runs
     (op.made.2 ∙ ap (λ (ns : List FaultNote). ns ++ n ∷ []) t.are_faults ∙ sym (faults_push_some t.rows q n refl))
     (in_session ∙ next) in_session (λ _ l. absurd (not_live o (Tried (trying o h) i facts answer.Fault ∷ h) shut l)) refl
     (v.faults, n, op.made.2, in_session, inr (refl, next_differs (trying o h) (session_of h) next), t.notes) (λ _. op.made.1 ∙ sym shut)
-    op.want_counts (λ x e. no_want (wanted h) u x)
+    op.sound (λ e. absurd (op.safe (t.sound e).0 refl)) op.want_counts (λ x e. no_want (wanted h) u x)
 opened_put {out = out} {o = o} {h = h} i p facts answer.NoMemory v w t u at in_session next (inr m) =
     let op = m.1 in
     let s = session_in v.fifo in
     let q : Row = record { note = record { number = s; begun = false; closed = false }; outcome = NotBegun; fault = None; written = []; before = v.shelf; after = w.shelf } in
-    appended t q (Tried (trying o h) i facts answer.NoMemory ∷ h) [] w.shelf w.kit.mux w.runs w.sessions w.faults
+    appended t q (Tried (trying o h) i facts answer.NoMemory ∷ h) [] w.shelf w.kit.writer w.runs w.sessions w.faults
     refl refl ((refl, refl, refl, op.made.0), λ e. op.made.4, op.counts, op.want_counts) refl op.sessions op.runs
     (op.made.2 ∙ t.are_faults ∙ sym (faults_push_none t.rows q refl))
     (in_session ∙ next) in_session (λ x. absurd (cc x)) refl (rw op.made.2 t.notes) (λ x. absurd (cc x))
-    op.want_counts (λ x e. rose_later out.shelf.wants v.shelf.wants w.shelf.wants t.wants op.made.4)
+    op.sound (λ e. op.made.2 ∙ t.safe e) op.want_counts (λ x e. rose_later out.shelf.wants v.shelf.wants w.shelf.wants t.wants op.made.4)

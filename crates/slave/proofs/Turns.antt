@@ -16,11 +16,9 @@ use Rattle.slave.specs.declared.records.Run.{Run}
 use Rattle.slave.specs.declared.records.SessionNote.{SessionNote}
 use Rattle.slave.specs.declared.records.FaultAt.TheVariants.{Put}
 use Rattle.slave.specs.declared.records.FaultNote.{FaultNote}
-use Rattle.slave.specs.Calls.{MuxAfter}
-use Rattle.slave.specs.declared.mux.Mux.{Mux}
 use Rattle.rmx_edge.specs.Count.{Rose}
 use Rattle.slave.specs.Runs.{Joins, AreInOrder}
-use Rattle.slave.specs.Job.{JobView, KitOf, Calls, Puts, OpensAndPuts, Settles, is_done}
+use Rattle.slave.specs.Job.{JobView, KitOf, Writer, WriterAfter, Calls, Puts, OpensAndPuts, Settles, is_done}
 use Rattle.slave.specs.Table.{if_written, Table, ahead_of, Indexed}
 use Rattle.slave.proofs.Rows.{get_end, indexed_push}
 use Rattle.fifo_core.specs.declared.types.After.{After}
@@ -32,8 +30,9 @@ use Rattle.fifo_core.specs.History.{action_of, needs_restart, after_answer_of, a
 use Rattle.fifo_core.specs.State.{Shows, next_of}
 use Rattle.fifo_core.specs.Follows.{Turn, Comes, MayWant, Made, Runs}
 use Rattle.slave.specs.Origin.{facts_of}
-use Rattle.slave.specs.Table.{HasPlaces, Stands, Holds, Tells, Ends, Concludes, Primed, Acts, Keeps, expected_in, turns_from}
+use Rattle.slave.specs.Table.{HasPlaces, Stands, Holds, Tells, Ends, Concludes, Primed, Acts, Keeps, Grows, expected_in, turns_from}
 use Rattle.slave.specs.Job.{is_fault, MakesRoom}
+use Rattle.slave.proofs.Later.{turn_adds, turn_dead}
 use Rattle.slave.proofs.Steps.{widened, recorded, want_before, want_now, put_made, opened_put, fault_closes}
 
 same_fate : {f g : Fate} → after.Settle f ≡ after.Settle g → f ≡ g
@@ -43,17 +42,17 @@ told_fates : (h g : History) → MayWant h g → fates_of g ≡ fates_of h
 told_fates h g (inl e) = rw e refl
 told_fates h g (inr e) = rw e refl
 
-told_table : {out : Origin} {o : FifoOptions} {L : List Packet} {ahead : List (ℕ × Packet)} {shelf : ShelfState} {mux : Mux} {runs : List Run} {sessions : List SessionNote} {faults : List FaultNote}
+told_table : {out : Origin} {o : FifoOptions} {L : List Packet} {ahead : List (ℕ × Packet)} {shelf : ShelfState} {writer : Writer} {runs : List Run} {sessions : List SessionNote} {faults : List FaultNote}
     (h g : History) (i : ℕ) (facts : PacketFacts) (a : Answer) → MayWant h g → (is_fault a ≡ false → g ≡ h)
-    → Table out o L (Tried (trying o h) i facts a ∷ h) ahead shelf mux runs sessions faults → Table out o L (Tried (trying o g) i facts a ∷ g) ahead shelf mux runs sessions faults
-told_table {out = out} {o = o} {L = L} {ahead = ahead} {shelf = shelf} {mux = mux} {runs = runs} {sessions = sessions} {faults = faults} h g i facts a (inl e) same t =
-    subst (λ (x : History). Table out o L (Tried (trying o x) i facts a ∷ x) ahead shelf mux runs sessions faults) (sym e) t
-told_table {out = out} {o = o} {L = L} {ahead = ahead} {shelf = shelf} {mux = mux} {runs = runs} {sessions = sessions} {faults = faults} h g i facts answer.Fault (inr e) same t =
-    subst (λ (x : History). Table out o L (Tried (trying o x) i facts answer.Fault ∷ x) ahead shelf mux runs sessions faults) (sym e) (want_before (trying o h) i facts t)
-told_table {out = out} {o = o} {L = L} {ahead = ahead} {shelf = shelf} {mux = mux} {runs = runs} {sessions = sessions} {faults = faults} h g i facts answer.Done (inr e) same t =
-    subst (λ (x : History). Table out o L (Tried (trying o x) i facts answer.Done ∷ x) ahead shelf mux runs sessions faults) (sym (same refl)) t
-told_table {out = out} {o = o} {L = L} {ahead = ahead} {shelf = shelf} {mux = mux} {runs = runs} {sessions = sessions} {faults = faults} h g i facts answer.NoMemory (inr e) same t =
-    subst (λ (x : History). Table out o L (Tried (trying o x) i facts answer.NoMemory ∷ x) ahead shelf mux runs sessions faults) (sym (same refl)) t
+    → Table out o L (Tried (trying o h) i facts a ∷ h) ahead shelf writer runs sessions faults → Table out o L (Tried (trying o g) i facts a ∷ g) ahead shelf writer runs sessions faults
+told_table {out = out} {o = o} {L = L} {ahead = ahead} {shelf = shelf} {writer = writer} {runs = runs} {sessions = sessions} {faults = faults} h g i facts a (inl e) same t =
+    subst (λ (x : History). Table out o L (Tried (trying o x) i facts a ∷ x) ahead shelf writer runs sessions faults) (sym e) t
+told_table {out = out} {o = o} {L = L} {ahead = ahead} {shelf = shelf} {writer = writer} {runs = runs} {sessions = sessions} {faults = faults} h g i facts answer.Fault (inr e) same t =
+    subst (λ (x : History). Table out o L (Tried (trying o x) i facts answer.Fault ∷ x) ahead shelf writer runs sessions faults) (sym e) (want_before (trying o h) i facts t)
+told_table {out = out} {o = o} {L = L} {ahead = ahead} {shelf = shelf} {writer = writer} {runs = runs} {sessions = sessions} {faults = faults} h g i facts answer.Done (inr e) same t =
+    subst (λ (x : History). Table out o L (Tried (trying o x) i facts answer.Done ∷ x) ahead shelf writer runs sessions faults) (sym (same refl)) t
+told_table {out = out} {o = o} {L = L} {ahead = ahead} {shelf = shelf} {writer = writer} {runs = runs} {sessions = sessions} {faults = faults} h g i facts answer.NoMemory (inr e) same t =
+    subst (λ (x : History). Table out o L (Tried (trying o x) i facts answer.NoMemory ∷ x) ahead shelf writer runs sessions faults) (sym (same refl)) t
 
 -- a fault settles no packet as written
 fault_fate : (p : Packet) (w b n : Bool) (m : ℕ) (f : Fate)
@@ -146,7 +145,7 @@ settled {out = out} {o = o} {L = L} {p = p} {h = h} {a = a} v w x r f d k e s =
     let g = k.told in
     let is = sym k.result ∙ e in
     let same_count : length (fates_of g) ≡ length L = rw (told_fates h g k.may) d.count in
-    let moved : Table out o (L ++ p ∷ []) (Tried (trying o g) i facts a ∷ g) (if_written p f) x.shelf x.kit.mux w.runs x.sessions x.faults
+    let moved : Table out o (L ++ p ∷ []) (Tried (trying o g) i facts a ∷ g) (if_written p f) x.shelf x.kit.writer w.runs x.sessions x.faults
     = rw (s.shelf ∙ k.shelf, s.kit ∙ k.kit, s.sessions ∙ k.sessions, s.faults ∙ k.faults, k.runs, ← ahead_is o h g i p facts a f is k.not_asked d.unwanted)
     (told_table h g i facts a k.may k.not_asked d.table) in
     record {
@@ -202,7 +201,7 @@ pub record Retries (out : Origin) (o : FifoOptions) (L : List Packet) (p : Packe
   pub order : AreInOrder (length L) w.runs
   pub unwanted : wanted h ≡ false
   pub closed_now : mode_is_live (mode_of o h) ≡ false
-  pub table : Table out o (L ++ p ∷ []) h [] w.shelf w.kit.mux w.runs w.sessions w.faults
+  pub table : Table out o (L ++ p ∷ []) h [] w.shelf w.kit.writer w.runs w.sessions w.faults
   pub run_places : 1 ≤ w.run_places
   pub session_places : 1 ≤ w.session_places
   pub fault_places : 1 ≤ w.fault_places
@@ -280,7 +279,7 @@ pub record Writes (out : Origin) (o : FifoOptions) (L : List Packet) (p : Packet
   pub order : AreInOrder (length L) v.runs
   pub unwanted : wanted h ≡ false
   pub live : mode_of o h ≡ Live
-  pub table : Table out o (L ++ p ∷ []) h [] v.shelf v.kit.mux v.runs v.sessions v.faults
+  pub table : Table out o (L ++ p ∷ []) h [] v.shelf v.kit.writer v.runs v.sessions v.faults
   pub run_places : 1 ≤ v.run_places
   pub fault_places : 1 ≤ v.fault_places
   pub room : Joins v.runs (length L) (fate.Written (trying o h)) ⊎ (2 ≤ v.run_places)
@@ -294,7 +293,7 @@ put_faults answer.NoMemory v w c e = absurd (cc e)
 abbrev pub written_before : {out : Origin} {o : FifoOptions} {L : List Packet} {p : Packet} {h : History} {v : JobView} → Writes out o L p h v → List Packet
 written_before t = t.table.last.last.written
 
-pub put_after : {out : Origin} {o : FifoOptions} {L : List Packet} {p : Packet} {h : History} {v : JobView} (t : Writes out o L p h v) → MuxAfter out (written_before t) v.kit.mux
+pub put_after : {out : Origin} {o : FifoOptions} {L : List Packet} {p : Packet} {h : History} {v : JobView} (t : Writes out o L p h v) → WriterAfter out (written_before t) v.kit.writer
 put_after t = (t.table.last.is_open t.unwanted t.live).1
 
 pub put_holds : {out : Origin} {o : FifoOptions} {L : List Packet} {p : Packet} {h : History} (a : Answer) (v w : JobView)
@@ -422,7 +421,7 @@ pub primed_settles : {out : Origin} {o : FifoOptions} {L : List Packet} {p : Pac
     → w.session_places ≡ v.session_places → w.fault_places ≡ v.fault_places → Settles (length L) f w x → Acts out o L p h x
 primed_settles {out = out} {o = o} {L = L} {p = p} {h = h} v w x f k e shows next a y b c d r ss g s =
     let is = settle_bools p f (wanted h) (mode_of o h) (is_waiting o h (facts_of out p)) (needs_restart o h (length L) (facts_of out p)) e in
-    let moved : Table out o (L ++ p ∷ []) h (if_written p f) x.shelf x.kit.mux w.runs x.sessions x.faults
+    let moved : Table out o (L ++ p ∷ []) h (if_written p f) x.shelf x.kit.writer w.runs x.sessions x.faults
     = rw (s.shelf ∙ a, s.kit ∙ y, s.sessions ∙ c, s.faults ∙ d, b, is.0) (widened p k.stands.count k.stands.table) in
     let same_next = ap next_of s.fifo ∙ next in
     record {
@@ -479,18 +478,25 @@ runs_push : (o : FifoOptions) (h : History) (ts : List Turn) (t : Turn) (mid new
 runs_push o h [] t mid new r m = (new, rw (← r) m, refl)
 runs_push o h (u ∷ ts) t mid new r m = (r.0, r.1, runs_push o r.0 ts t mid new r.2 m)
 
-pub keeps_on : {out : Origin} {o : FifoOptions} {L : List Packet} {p : Packet} {v w : JobView} (k : Keeps out o L v) (g : History)
-    → MayWant k.history g → Acts out o L p g w → Keeps out o (L ++ p ∷ []) w
-keeps_on {out = out} {o = o} {L = L} {p = p} k g may a = record {
-  history = a.new;
-  follows = (
-    k.follows.0,
-    k.follows.1,
-    k.follows.2,
-    rw (turns_push out 0 L p) (runs_push o k.follows.1 (turns_from out 0 L) (Comes (0 + length L) (facts_of out p)) k.history a.new k.follows.3 (rw (zero-add (length L)) (g, may, a.acted))),
-  );
-  stands = a.stands;
-}
+pub grows : {out : Origin} {o : FifoOptions} {L : List Packet} {p : Packet} {v w : JobView} (k : Keeps out o L v) (g : History)
+    → MayWant k.history g → Acts out o L p g w → Grows out o (L ++ p ∷ []) k.history w
+grows {out = out} {o = o} {L = L} {p = p} k g may a =
+    let adds = turn_adds o k.history g (length L) (facts_of out p) a.new may a.acted in
+    record {
+      keeps = record {
+        history = a.new;
+        follows = (
+          k.follows.0,
+          k.follows.1,
+          k.follows.2,
+          rw (turns_push out 0 L p) (runs_push o k.follows.1 (turns_from out 0 L) (Comes (0 + length L) (facts_of out p)) k.history a.new k.follows.3 (rw (zero-add (length L)) (g, may, a.acted))),
+        );
+        stands = a.stands;
+      };
+      later = adds.0;
+      goes_on = adds.1;
+      stays_dead = turn_dead o k.history g (length L) (facts_of out p) a.new may a.acted;
+    }
 
 -- room was made, or refused
 pub roomy : {out : Origin} {o : FifoOptions} {L : List Packet} {h : History} (i : ℕ) (f : Fate) (b : Bool) (v w : JobView)

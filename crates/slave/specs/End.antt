@@ -1,11 +1,11 @@
 -- How an output ends.
-use Rattle.std.specs.Prelude.{◌≡◌, ℕ, ◌≤◌, Bool, false, List, [], ◌∷◌, ◌++◌, length, map, flat_map, filter_map, Option, Some, None, is_some}
+use Rattle.std.specs.Prelude.{◌≡◌, ℕ, ◌≤◌, ◌⊎◌, Bool, true, false, List, [], ◌∷◌, ◌++◌, length, map, flat_map, filter_map, Option, Some, None, is_some}
 use Rattle.fifo_core.specs.declared.types.FifoOptions.{FifoOptions}
 use Rattle.fifo_core.specs.declared.types.Answer.{Answer}
 use Rattle.fifo_core.specs.declared.types.Answer.TheVariants as answer
 use Rattle.fifo_core.specs.declared.types.EndState.{EndState}
 use Rattle.fifo_core.specs.declared.types.EndState.TheVariants as ends
-use Rattle.fifo_core.specs.History.{History, session_of, fates_of, is_live, end_of}
+use Rattle.fifo_core.specs.History.{History, session_of, fates_of, is_live, end_of, mode_of, mode_is_dead}
 use Rattle.fifo_core.specs.Follows.{Follows}
 use Rattle.rmx_edge.specs.Shelf.{ShelfState}
 use Rattle.rmx_edge.specs.Count.{raised, Rose}
@@ -85,5 +85,26 @@ pub record Ended (g : Origin) (o : FifoOptions) (L : List Packet) (e : EndView) 
   pub packets : flat_map row_packets rows ≡ written_of L (fates_of history)
   pub notes : EndNotes history end_answer e.faults
   pub inline : e.inline ≡ false
+  -- a sound shelf had no fault, and none is noted
+  pub sound : g.shelf.sound ≡ true → e.shelf.faults ≡ g.shelf.faults
+  pub safe : g.shelf.sound ≡ true → e.faults ≡ []
   pub wants : g.shelf.wants ≤ e.shelf.wants
   pub excuse : e.state ≡ ends.NoMemory → e.faults ≡ [] → Rose g.shelf.wants e.shelf.wants
+
+-- and its history is this one
+abbrev pub EndedBy : Origin → FifoOptions → List Packet → History → EndView → Type 0
+EndedBy g o L h e = (k : Ended g o L e) × (k.history ≡ h)
+
+-- the output wasn't closed
+abbrev pub IsUnclosed : EndState → Type 0
+IsUnclosed s = (s ≡ ends.Failed) ⊎ (s ≡ ends.NoMemory)
+
+-- an output that was given up after a part of its history is given up at its end, which isn't closed
+abbrev pub GivenUpStaysSo : Type 0
+GivenUpStaysSo = (g : Origin) (o : FifoOptions) (L : List Packet) (e : EndView) (k : Ended g o L e) (later part : History)
+    → k.history ≡ later ++ part → mode_is_dead (mode_of o part) ≡ true → (mode_is_dead (mode_of o k.history) ≡ true) × IsUnclosed e.state
+
+-- on a sound shelf an output isn't given up, and it is closed unless memory was wanted
+abbrev pub SoundNeverFails : Type 0
+SoundNeverFails = (g : Origin) (o : FifoOptions) (L : List Packet) (e : EndView) (k : Ended g o L e)
+    → g.shelf.sound ≡ true → (mode_is_dead (mode_of o k.history) ≡ false) × (e.state ≡ ends.Failed → ⊥)

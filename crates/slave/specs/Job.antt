@@ -1,5 +1,5 @@
 -- What clauses see of an output's job, and what each step does to it.
-use Rattle.std.specs.Prelude.{◌≡◌, ℕ, ◌+◌, ◌≤◌, ◌⊎◌, Bool, true, false, List, [], ◌∷◌, ◌++◌, length, Option, Some, string_bytes}
+use Rattle.std.specs.Prelude.{◌≡◌, ◌≢◌, ℕ, ◌+◌, ◌≤◌, ◌⊎◌, Bool, true, false, List, [], ◌∷◌, ◌++◌, length, Option, Some, string_bytes}
 use Rattle.fifo_core.specs.declared.types.Answer.{Answer}
 use Rattle.fifo_core.specs.declared.types.Answer.TheVariants as answer
 use Rattle.fifo_core.specs.declared.types.Fate.{Fate}
@@ -21,12 +21,23 @@ use Rattle.slave.specs.declared.records.FaultNote.{FaultNote}
 use Rattle.slave.specs.declared.records.FaultAt.TheVariants.{Begin, End}
 use Rattle.slave.specs.Runs.{expand, Joins, AreInOrder}
 use Rattle.slave.specs.declared.job.SlaveJob.{SlaveJob}
+use Rattle.slave.specs.Watched.{inner, is_flushed}
+
+-- what writes a file: the muxer, and whether the shelf's last call was a flush that was done
+pub record Writer : Type 0 where
+  pub mux : Mux
+  pub flushed : Bool
+
+-- it is where these packets of the file left it, and all that was written for them was flushed
+pub record WriterAfter (g : Origin) (before : List Packet) (w : Writer) : Type 0 where
+  pub mux : MuxAfter g before w.mux
+  pub flushed : before ≢ [] → w.flushed ≡ true
 
 -- what a job keeps of what it was made of
 pub record Kit : Type 0 where
   pub name : List ℕ
   pub video : Option ℕ
-  pub mux : Mux
+  pub writer : Writer
 
 -- it is that of this output
 pub record KitOf (g : Origin) (k : Kit) : Type 0 where
@@ -35,7 +46,7 @@ pub record KitOf (g : Origin) (k : Kit) : Type 0 where
   -- its shelf counts bytes from 0
   pub counts : g.shelf.accepted ≡ Some (record { before = 0; last = 0 })
   pub video : k.video ≡ video_of g.streams.streams.items
-  pub mux : IsMuxOf g k.mux
+  pub mux : IsMuxOf g k.writer.mux
 
 pub record JobView : Type 0 where
   pub shelf : ShelfState
@@ -50,8 +61,8 @@ pub record JobView : Type 0 where
 
 abbrev pub view_of : {S : Type 0} {ghosts : Ghosts S} → (S → ShelfState) → SlaveJob S ghosts → JobView
 view_of state job = record {
-  shelf = with_count (state job.shelf.shelf) job.shelf.before job.shelf.last;
-  kit = record { name = string_bytes job.name; video = job.video; mux = job.mux };
+  shelf = with_count (state (inner job.shelf).shelf) (inner job.shelf).before (inner job.shelf).last;
+  kit = record { name = string_bytes job.name; video = job.video; writer = record { mux = job.mux; flushed = is_flushed job.shelf } };
   fifo = job.fifo;
   runs = job.runs.items;
   run_places = job.runs.spare;
@@ -60,6 +71,10 @@ view_of state job = record {
   faults = job.faults.items;
   fault_places = job.faults.spare;
 }
+
+-- a sound shelf had no fault, and is sound still
+abbrev pub SoundStays : ShelfState → ShelfState → Type 0
+SoundStays old new = old.sound ≡ true → (new.sound ≡ true) × (new.faults ≡ old.faults)
 
 -- the note of a fault
 abbrev pub note_at : JobView → FaultAt → JobView → FaultNote
@@ -82,6 +97,8 @@ pub record Calls (g : Origin) (calls : List ShelfCall) (at : FaultAt) (old : Job
   pub made : CallsMade calls at true old a new
   pub counts : old.shelf.faults ≤ new.shelf.faults
   pub want_counts : old.shelf.wants ≤ new.shelf.wants
+  pub sound : SoundStays old.shelf new.shelf
+  pub safe : old.shelf.sound ≡ true → a ≡ answer.Fault → ⊥
   pub kit : KitOf g new.kit
   pub fifo : new.fifo ≡ old.fifo
   pub runs : new.runs ≡ old.runs
@@ -92,7 +109,7 @@ pub record Calls (g : Origin) (calls : List ShelfCall) (at : FaultAt) (old : Job
 -- a packet was given to the muxer, behind those before it in the file
 pub record Puts (g : Origin) (before : List Packet) (p : Packet) (at : FaultAt) (old : JobView) (a : Answer) (new : JobView) : Type 0 where
   pub calls : Calls g (put_calls g before p) at old a new
-  pub mux : a ≡ answer.Done → MuxAfter g (before ++ p ∷ []) new.kit.mux
+  pub writer : a ≡ answer.Done → WriterAfter g (before ++ p ∷ []) new.kit.writer
 
 abbrev pub is_done : Answer → Bool
 is_done answer.Done = true
@@ -107,15 +124,17 @@ is_fault answer.NoMemory = false
 -- a file was begun for the session that is to be opened
 pub record Begins (g : Origin) (old : JobView) (a : Answer) (new : JobView) : Type 0 where
   pub calls : Calls g (begin_calls g (session_in old.fifo)) Begin old a new
-  pub mux : a ≡ answer.Done → MuxAfter g [] new.kit.mux
+  pub writer : a ≡ answer.Done → WriterAfter g [] new.kit.writer
 
 -- a session was opened, and its note made
 pub record Opens (g : Origin) (old : JobView) (a : Answer) (new : JobView) : Type 0 where
   pub made : CallsMade (begin_calls g (session_in old.fifo)) Begin true old a new
   pub counts : old.shelf.faults ≤ new.shelf.faults
   pub want_counts : old.shelf.wants ≤ new.shelf.wants
+  pub sound : SoundStays old.shelf new.shelf
+  pub safe : old.shelf.sound ≡ true → a ≡ answer.Fault → ⊥
   pub kit : KitOf g new.kit
-  pub mux : a ≡ answer.Done → MuxAfter g [] new.kit.mux
+  pub writer : a ≡ answer.Done → WriterAfter g [] new.kit.writer
   pub fifo : new.fifo ≡ old.fifo
   pub runs : new.runs ≡ old.runs
   pub run_places : new.run_places ≡ old.run_places
@@ -181,6 +200,8 @@ pub record Closes (g : Origin) (before : List Packet) (old : JobView) (a : Answe
   pub made : CallsMade (end_calls g before) End false old a new
   pub counts : old.shelf.faults ≤ new.shelf.faults
   pub want_counts : old.shelf.wants ≤ new.shelf.wants
+  pub sound : SoundStays old.shelf new.shelf
+  pub safe : old.shelf.sound ≡ true → a ≡ answer.Fault → ⊥
   pub fifo : new.fifo ≡ old.fifo
   pub runs : new.runs ≡ old.runs
   pub sessions : ClosesLast a old.sessions new.sessions

@@ -6,5 +6,8 @@ pub mod Headline
 pub mod Job
 pub mod Origin
 pub mod Places
+pub mod Prepared
 pub mod Runs
+pub mod Sample
 pub mod Table
+pub mod Watched

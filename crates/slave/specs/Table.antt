@@ -7,7 +7,7 @@ use Rattle.fifo_core.specs.declared.types.PacketFacts.{PacketFacts}
 use Rattle.fifo_core.specs.declared.types.Answer.TheVariants as answer
 use Rattle.fifo_core.specs.declared.types.Mode.TheVariants.{Live}
 use Rattle.fifo_core.specs.declared.types.Answer.{Answer}
-use Rattle.fifo_core.specs.History.{Begun, Tried, Fated, Want, History, mode_of, mode_is_live, session_of, trying, fates_of, wanted, after_of, action_of}
+use Rattle.fifo_core.specs.History.{Begun, Tried, Fated, Want, History, mode_of, mode_is_live, mode_is_dead, session_of, trying, fates_of, wanted, after_of, action_of}
 use Rattle.fifo_core.specs.Follows.{Turn, Comes, Follows, MayWant, Answered, Acted}
 use Rattle.fifo_core.specs.State.{Shows, next_of, after_answer, hand_after_answer}
 use Rattle.fifo_core.specs.declared.types.After.{After}
@@ -23,12 +23,11 @@ use Rattle.slave.specs.declared.records.SessionNote.{SessionNote}
 use Rattle.slave.specs.declared.records.FaultAt.{FaultAt}
 use Rattle.slave.specs.declared.records.FaultAt.TheVariants.{Begin, Put, End}
 use Rattle.slave.specs.declared.records.FaultNote.{FaultNote}
-use Rattle.slave.specs.declared.mux.Mux.{Mux}
 use Rattle.slave.specs.Origin.{Origin, facts_of}
-use Rattle.slave.specs.Calls.{begin_calls, put_calls, end_calls, puts, MuxAfter}
+use Rattle.slave.specs.Calls.{begin_calls, put_calls, end_calls, puts}
 use Rattle.slave.specs.declared.records.Run.{Run}
 use Rattle.slave.specs.Runs.{expand, Joins, AreInOrder}
-use Rattle.slave.specs.Job.{JobView, KitOf, is_done, is_fault}
+use Rattle.slave.specs.Job.{JobView, KitOf, Writer, WriterAfter, SoundStays, is_done, is_fault}
 
 -- how a session stands
 pub data Outcome : Type 0 where
@@ -139,19 +138,19 @@ Numbered n [] = Unit {0}
 Numbered n (r ∷ rs) = (r.note.number ≡ n) × Numbered (n + 1) rs
 
 -- The last session is the one that was tried last; while the output is live and no memory was wanted it is open, and the
--- muxer is where its packets left it.
-pub record LastRow (g : Origin) (o : FifoOptions) (h : History) (mux : Mux) (rows : List Row) : Type 0 where
+-- muxer is where its packets left it, all of them flushed.
+pub record LastRow (g : Origin) (o : FifoOptions) (h : History) (writer : Writer) (rows : List Row) : Type 0 where
   pub front : List Row
   pub last : Row
   pub split : rows ≡ front ++ last ∷ []
   pub number : last.note.number ≡ session_of h
-  pub is_open : wanted h ≡ false → mode_of o h ≡ Live → (last.outcome ≡ Open) × MuxAfter g last.written mux
+  pub is_open : wanted h ≡ false → mode_of o h ≡ Live → (last.outcome ≡ Open) × WriterAfter g last.written writer
 
 -- What is recorded agrees with this history of these packets. The packets ahead were written, and their fates are not yet recorded.
 pub record Table (g : Origin) (o : FifoOptions) (L : List Packet) (h : History) (ahead : List (ℕ × Packet))
-    (shelf : ShelfState) (mux : Mux) (runs : List Run) (sessions : List SessionNote) (faults : List FaultNote) : Type 0 where
+    (shelf : ShelfState) (writer : Writer) (runs : List Run) (sessions : List SessionNote) (faults : List FaultNote) : Type 0 where
   pub rows : List Row
-  pub last : LastRow g o h mux rows
+  pub last : LastRow g o h writer rows
   pub numbered : Numbered 0 rows
   pub are_sessions : sessions ≡ map row_note rows
   pub are_faults : faults ≡ filter_map row_fault rows
@@ -161,6 +160,8 @@ pub record Table (g : Origin) (o : FifoOptions) (L : List Packet) (h : History) 
   pub fates : expand runs ≡ fates_of h
   pub notes : NotesTell h faults
   pub writing : wanted h ≡ false → shelf.writing ≡ mode_is_live (mode_of o h)
+  pub sound : SoundStays g.shelf shelf
+  pub safe : g.shelf.sound ≡ true → faults ≡ []
   -- the count of wants rose where memory was wanted and no fault was noted
   pub wants : g.shelf.wants ≤ shelf.wants
   pub excuse : wanted h ≡ true → faults ≡ [] → Rose g.shelf.wants shelf.wants
@@ -191,7 +192,7 @@ pub record Stands (g : Origin) (o : FifoOptions) (L : List Packet) (h : History)
   pub count : length (fates_of h) ≡ length L
   pub indexed : Indexed 0 (fates_of h)
   pub order : AreInOrder (length L) v.runs
-  pub table : Table g o L h [] v.shelf v.kit.mux v.runs v.sessions v.faults
+  pub table : Table g o L h [] v.shelf v.kit.writer v.runs v.sessions v.faults
   pub places : HasPlaces o h v
 
 -- the job stands where these packets, all from the first on, left it
@@ -199,6 +200,14 @@ pub record Keeps (g : Origin) (o : FifoOptions) (L : List Packet) (v : JobView) 
   pub history : History
   pub follows : Follows o (turns_from g 0 L) history
   pub stands : Stands g o L history v
+
+-- The job stands where these packets left it, and its history goes on from the one before. An output that was given up
+-- stays so.
+pub record Grows (g : Origin) (o : FifoOptions) (L : List Packet) (before : History) (v : JobView) : Type 0 where
+  pub keeps : Keeps g o L v
+  pub later : History
+  pub goes_on : keeps.history ≡ later ++ before
+  pub stays_dead : mode_is_dead (mode_of o before) ≡ true → mode_is_dead (mode_of o keeps.history) ≡ true
 
 abbrev pub ahead_of : ℕ → Packet → Answer → List (ℕ × Packet)
 ahead_of s p answer.Done = (s, p) ∷ []
@@ -215,7 +224,7 @@ pub record Holds (g : Origin) (o : FifoOptions) (L : List Packet) (p : Packet) (
   pub order : AreInOrder (length L) v.runs
   pub unwanted : wanted h ≡ false
   pub table : Table g o (L ++ p ∷ []) (Tried (trying o h) (length L) (facts_of g p) a ∷ h) (ahead_of (trying o h) p a)
-      v.shelf v.kit.mux v.runs v.sessions v.faults
+      v.shelf v.kit.writer v.runs v.sessions v.faults
   -- there is a place for the run of a written packet, and one more for want of memory
   pub room : Joins v.runs (length L) (fate.Written (trying o h)) ⊎ (2 ≤ v.run_places)
   pub last_place : 1 ≤ v.run_places

@@ -6,28 +6,33 @@ ghost use Rattle.fifo_core.specs.declared.types.FifoOptions.{FifoOptions};
 ghost use Rattle.fifo_core.specs.declared.types.PacketFacts.{PacketFacts};
 ghost use Rattle.rmx_edge.specs.Counted.{with_count, inner, bytes_of};
 ghost use Rattle.rmx_media.specs.Streams.{CanMux};
+ghost use Rattle.rmx_media.specs.declared.packet.Format.{Format};
 ghost use Rattle.rmx_media.specs.declared.packet.Packet.{Packet};
-ghost use Rattle.slave.specs.Calls.{IsBuilt, MuxAfter};
-ghost use Rattle.slave.specs.Origin.{Origin, facts_of, video_of as video_in, session_name as session_in_name};
+ghost use Rattle.rmx_media.specs.declared.streams.MuxStreams.{MuxStreams};
+ghost use Rattle.slave.specs.Calls.{IsBuilt};
+ghost use Rattle.slave.specs.Origin.{Origin, facts_of, session_name as session_in_name};
 ghost use Rattle.slave.specs.Runs.{Joins};
-ghost use Rattle.slave.specs.Job.{ClosesLast, is_done as is_answer_done};
+ghost use Rattle.slave.specs.Job.{ClosesLast, WriterAfter, is_done as is_answer_done};
+ghost use Rattle.slave.specs.Watched.{inner as watched};
 ghost use Rattle.fifo_core.specs.declared.types.Answer.TheVariants as answer;
 
+use crate::kit::SlaveKit;
 use crate::mux::Mux;
 use crate::name::session_name;
 use crate::places::Places;
 use crate::records::{FaultAt, FaultNote, Run, SessionNote};
 use crate::runs::{add_fate, joins};
+use crate::watched::Watched;
 use arrayvec::ArrayString;
 use fifo_core::{Action, After, Answer, EndState, Fate, FifoOptions, FifoState, PacketFacts};
 use rmx_edge::{Counted, Shelf, ShelfFault};
-use rmx_media::{Format, Items, Kind, MuxStreams, NoMemory, Packet, is_restart};
+use rmx_media::{Format, Items, MuxStreams, NoMemory, Packet, is_restart};
 use std::alloc::Global;
 
 /// An output: its muxer and its shelf, the fate machine, and what is recorded of both.
 #[derive(Drop)]
 pub struct SlaveJob<S: Shelf> {
-    shelf: Counted<S>,
+    shelf: Watched<Counted<S>>,
     name: String,
     video: Option<u32>,
     mux: Mux,
@@ -54,24 +59,12 @@ pub struct SlaveEnd<S> {
     pub bytes: u64,
 }
 
-// The number of the video stream, if there is one.
-fn video_of(streams: &MuxStreams) -> Option<u32>
-    ensures { result ≡ video_in streams.now.streams.items }
-{
-    match streams.streams.as_slice().first() {
-        Some(stream) => match stream.info.kind {
-            Kind::Video => Some(stream.stream),
-            Kind::Audio => None,
-        },
-        None => None,
-    }
-}
-
 impl<S: Shelf> SlaveJob<S> {
     ghost use Rattle.slave.specs.Job.{view_of, KitOf, Puts, Begins, Opens, Asks, Settles, OpensAndPuts, MakesRoom, Closes};
-    ghost use Rattle.slave.specs.Table.{Tells, expected_in, Keeps, Holds, Ends, Concludes, Primed, Acts, Takes};
+    ghost use Rattle.slave.specs.Table.{Tells, expected_in, Keeps, Grows, Holds, Ends, Concludes, Primed, Acts, Takes};
     ghost use Rattle.slave.specs.Fresh.{IsFresh};
-    ghost use Rattle.slave.specs.End.{Ended, end_view};
+    ghost use Rattle.slave.specs.Prepared.{IsPrepared};
+    ghost use Rattle.slave.specs.End.{EndedBy, IsUnclosed, end_view};
 
     /// It reserves places for two runs, of which one is for want of memory alone, a session and a fault. A refusal hands the
     /// shelf back.
@@ -91,29 +84,37 @@ impl<S: Shelf> SlaveJob<S> {
             IsFresh (record { shelf = with_count (S.state shelf) 0 0; name = string_bytes name; format = format; streams = streams }) options (view_of S.state job)) }
         ensures back { IfErr result (λ e. e.0 ≡ shelf) }
     {
-        let mut runs = Places::new(alloc);
-        let mut sessions = Places::new(alloc);
-        let mut faults = Places::new(alloc);
-        if let Err(refused) = runs.reserve(2) {
-            return Err((shelf, refused));
+        match SlaveKit::new(alloc, name, format, options, streams) {
+            Ok(kit) => Ok(SlaveJob::with_kit(kit, shelf)),
+            Err(refused) => Err((shelf, refused)),
         }
-        if let Err(refused) = sessions.reserve(1) {
-            return Err((shelf, refused));
-        }
-        if let Err(refused) = faults.reserve(1) {
-            return Err((shelf, refused));
-        }
-        let video = video_of(&streams);
-        Ok(SlaveJob {
-            shelf: Counted::new(shelf),
+    }
+
+    /// The output on its shelf. It takes no memory.
+    pub fn with_kit(kit: SlaveKit, shelf: S) -> SlaveJob<S>
+        requires idle { (S.state shelf).writing ≡ false }
+        ensures fresh { (name : List ℕ) (format : Format) (o : FifoOptions) (streams : MuxStreams) → IsPrepared name format o streams kit
+            → IsFresh (record { shelf = with_count (S.state shelf) 0 0; name = name; format = format; streams = streams }) o (view_of S.state result) }
+    {
+        let SlaveKit {
             name,
             video,
-            mux: Mux::new(format, streams),
-            fifo: FifoState::new(options),
+            mux,
+            fifo,
             runs,
             sessions,
             faults,
-        })
+        } = kit;
+        SlaveJob {
+            shelf: Watched::new(Counted::new(shelf)),
+            name,
+            video,
+            mux,
+            fifo,
+            runs,
+            sessions,
+            faults,
+        }
     }
 
     /// Opens session 0.
@@ -156,7 +157,7 @@ impl<S: Shelf> SlaveJob<S> {
         requires writing { (view_of S.state self.old).shelf.writing ≡ true }
         requires place { 1 ≤ (view_of S.state self.old).fault_places }
         requires fits { (g : Origin) × KitOf g (view_of S.state self.old).kit × Takes g p.now }
-        ensures { (g : Origin) (before : List Packet) → KitOf g (view_of S.state self.old).kit → MuxAfter g before (view_of S.state self.old).kit.mux → Takes g p.now
+        ensures { (g : Origin) (before : List Packet) → KitOf g (view_of S.state self.old).kit → WriterAfter g before (view_of S.state self.old).kit.writer → Takes g p.now
             → Puts g before p.now (FaultAt.Put index) (view_of S.state self.old) result (view_of S.state self.new) }
     {
         let before = self.shelf.fault_count();
@@ -368,8 +369,8 @@ impl<S: Shelf> SlaveJob<S> {
         requires ready { (g : Origin) × (o : FifoOptions) × (L : List Packet)
             × Keeps g o L (view_of S.state self.old) × (length L ≡ index) × Takes g p.now }
         requires few { index < 2 ^ 61 }
-        ensures { (g : Origin) (o : FifoOptions) (L : List Packet)
-            → Keeps g o L (view_of S.state self.old) → length L ≡ index → Takes g p.now → Keeps g o (L ++ p.now ∷ []) (view_of S.state self.new) }
+        ensures { (g : Origin) (o : FifoOptions) (L : List Packet) (k : Keeps g o L (view_of S.state self.old))
+            → length L ≡ index → Takes g p.now → Grows g o (L ++ p.now ∷ []) k.history (view_of S.state self.new) }
     {
         let facts = self.facts(p);
         let expected = self.expected(index, facts);
@@ -387,7 +388,7 @@ impl<S: Shelf> SlaveJob<S> {
         requires place { 1 ≤ (view_of S.state self.old).fault_places }
         requires begun { 0 < length (view_of S.state self.old).sessions }
         requires kit { (g : Origin) × KitOf g (view_of S.state self.old).kit }
-        ensures { (g : Origin) (before : List Packet) → KitOf g (view_of S.state self.old).kit → MuxAfter g before (view_of S.state self.old).kit.mux
+        ensures { (g : Origin) (before : List Packet) → KitOf g (view_of S.state self.old).kit → WriterAfter g before (view_of S.state self.old).kit.writer
             → Closes g before (view_of S.state self.old) result (view_of S.state self.new) }
     {
         let before = self.shelf.fault_count();
@@ -413,7 +414,10 @@ impl<S: Shelf> SlaveJob<S> {
     /// Ends the output, and tells what became of its packets.
     pub fn finish_direct(mut self) -> SlaveEnd<S>
         requires { (g : Origin) × (o : FifoOptions) × (L : List Packet) × Keeps g o L (view_of S.state self) }
-        ensures { (g : Origin) (o : FifoOptions) (L : List Packet) → Keeps g o L (view_of S.state self) → Ended g o L (end_view S.state result) }
+        ensures ended { (g : Origin) (o : FifoOptions) (L : List Packet) (k : Keeps g o L (view_of S.state self))
+            → EndedBy g o L k.history (end_view S.state result) }
+        ensures given_up { (g : Origin) (o : FifoOptions) (L : List Packet) (k : Keeps g o L (view_of S.state self))
+            → mode_is_dead (mode_of o k.history) ≡ true → IsUnclosed result.state }
     {
         if self.fifo.is_live() {
             let answer = self.end();
@@ -426,15 +430,15 @@ impl<S: Shelf> SlaveJob<S> {
     }
 
     fn into_end(self, state: EndState) -> SlaveEnd<S>
-        ensures shelf { result.shelf ≡ inner self.shelf }
+        ensures shelf { result.shelf ≡ inner (watched self.shelf) }
         ensures fates { result.fates.items ≡ self.runs.items }
         ensures sessions { result.sessions.items ≡ self.sessions.items }
         ensures faults { result.faults.items ≡ self.faults.items }
         ensures state { result.state ≡ state }
         ensures inline { result.inline ≡ false }
-        ensures bytes { result.bytes ≡ bytes_of self.shelf }
+        ensures bytes { result.bytes ≡ bytes_of (watched self.shelf) }
     {
-        let bytes = self.shelf.bytes();
+        let bytes = self.shelf.shelf().bytes();
         let SlaveJob {
             shelf,
             name: _,
@@ -446,7 +450,7 @@ impl<S: Shelf> SlaveJob<S> {
             faults,
         } = self;
         SlaveEnd {
-            shelf: shelf.into_inner(),
+            shelf: shelf.into_inner().into_inner(),
             fates: runs.into_items(),
             sessions: sessions.into_items(),
             faults: faults.into_items(),

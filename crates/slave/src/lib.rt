@@ -2,15 +2,18 @@
 #![tactic(auto)]
 
 mod job;
+mod kit;
 mod laws;
 mod mux;
 mod name;
 mod places;
 mod records;
 mod runs;
+mod watched;
 
 pub use job::{SlaveEnd, SlaveJob};
-pub use laws::{ends_meet_accounts, no_fault_no_loss};
+pub use kit::SlaveKit;
+pub use laws::{ends_meet_accounts, given_up_stays_so, no_fault_no_loss, sound_never_fails};
 pub use mux::Mux;
 pub use name::session_name;
 pub use places::Places;

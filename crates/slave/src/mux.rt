@@ -8,16 +8,20 @@ ghost use Rattle.rmx_media.specs.Streams.{CanMux};
 ghost use Rattle.rmx_media.specs.declared.packet.Packet.{Packet};
 ghost use Rattle.slave.specs.Origin.{Origin};
 ghost use Rattle.slave.specs.Calls.{IsBuilt, begin_of, put_calls, end_calls};
+ghost use Rattle.slave.specs.Watched.{inner, is_flushed};
 
+use crate::watched::Watched;
 use aac_adts::AdtsMux;
 use flv_mux::FlvMux;
 use rmx_edge::{Shelf, ShelfFault};
 use rmx_media::{Format, MuxStreams, Packet};
+use ts_mux::TsMux;
 
 #[derive(Drop)]
 pub enum Mux {
     Adts(AdtsMux),
     Flv(FlvMux),
+    Mpegts(TsMux),
 }
 
 impl Mux {
@@ -31,6 +35,7 @@ impl Mux {
         match format {
             Format::Adts => Mux::Adts(AdtsMux::new(streams)),
             Format::Flv => Mux::Flv(FlvMux::new(streams)),
+            Format::Mpegts => Mux::Mpegts(TsMux::new(streams)),
             _ => unreachable!(),
         }
     }
@@ -46,18 +51,20 @@ impl Mux {
         match self {
             Mux::Adts(mux) => mux.begin(name, shelf),
             Mux::Flv(mux) => mux.begin(name, shelf),
+            Mux::Mpegts(mux) => mux.begin(name, shelf),
         }
     }
 
     /// Writes a packet and flushes the shelf. A refused flush is a refusal of the packet's last write.
-    pub fn put<S: Shelf>(&mut self, p: &Packet, shelf: &mut S) -> Result<(), ShelfFault>
-        requires begun { (S.state shelf.old).writing ≡ true }
+    pub fn put<S: Shelf>(&mut self, p: &Packet, shelf: &mut Watched<S>) -> Result<(), ShelfFault>
+        requires begun { (S.state (inner shelf.old)).writing ≡ true }
         requires fits { (g : Origin) × IsMuxOf g self.old × Fits g.format g.streams p.now }
         ensures of { (g : Origin) → IsMuxOf g self.old → IsMuxOf g self.new }
         ensures after { (g : Origin) (before : List Packet) → IsMuxOf g self.old → MuxAfter g before self.old → IsOk result → MuxAfter g (before ++ p.now ∷ []) self.new }
-        ensures open { IsOk result → (S.state shelf.new).writing ≡ true }
+        ensures open { IsOk result → (S.state (inner shelf.new)).writing ≡ true }
+        ensures flushed { IsOk result → is_flushed shelf.new ≡ true }
         ensures run { (g : Origin) (before : List Packet) → IsMuxOf g self.old → MuxAfter g before self.old → Fits g.format g.streams p.now
-            → Runs (put_calls g before p.now) result (S.state shelf.old) (S.state shelf.new) }
+            → Runs (put_calls g before p.now) result (S.state (inner shelf.old)) (S.state (inner shelf.new)) }
     {
         match self.write(p, shelf) {
             Ok(()) => shelf.flush(),
@@ -79,6 +86,7 @@ impl Mux {
         match self {
             Mux::Adts(mux) => mux.put(p, shelf),
             Mux::Flv(mux) => mux.put(p, shelf),
+            Mux::Mpegts(mux) => mux.put(p, shelf),
         }
     }
 
@@ -92,6 +100,7 @@ impl Mux {
         match self {
             Mux::Adts(mux) => mux.end(shelf),
             Mux::Flv(mux) => mux.end(shelf),
+            Mux::Mpegts(mux) => mux.end(shelf),
         }
     }
 }

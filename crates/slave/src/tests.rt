@@ -1,20 +1,24 @@
-// Outputs over shelves in memory, by worked examples. The packets are one byte of AAC each: 21, 22, 23 and so on.
-ghost use Rattle.std.specs.Prelude.{◌≡◌, ◌<◌, ◌^◌, length, Some, IfOk, true, false, OnOk};
+// Outputs over small shelves, by worked examples. An output of audio is ADTS, and its packets are one byte of AAC each: 21, 22,
+// 23 and so on. One of video is MPEG-TS; its packets are one unit each, and every second one is a key packet, from the first on.
+ghost use Rattle.std.specs.Prelude.{◌≡◌, ◌<◌, ◌^◌, length, Some, None, IfOk, true, false, OnOk};
 ghost use Rattle.rmx_media.specs.declared.packet.Format.TheVariants as format;
-ghost use Rattle.rmx_media.specs.declared.streams.Kind.TheVariants.{Audio};
-ghost use Rattle.rmx_media.specs.Config.{IsReadAac};
+ghost use Rattle.rmx_media.specs.declared.streams.Kind.TheVariants.{Audio, Video};
+ghost use Rattle.rmx_media.specs.Config.{IsAsRead, kind_of};
 ghost use Rattle.rmx_media.specs.Fits.{Fits};
+ghost use Rattle.rmx_media.specs.Units.{is_valid};
 ghost use Rattle.rmx_edge.specs.MemShelf.{state_of};
 ghost use Rattle.rmx_media.specs.Streams.{CanMux, kind_in};
 ghost use Rattle.rmx_media.specs.declared.streams.MuxStreams.{MuxStreams};
+ghost use Rattle.slave.specs.Calls.{IsBuilt};
+ghost use Rattle.slave.specs.Sample.{format_for};
 
 use crate::{FaultAt, FaultNote, Run, SessionNote, SlaveEnd, SlaveJob};
 use bytes::Bytes;
 use fifo_core::{EndState, Fate, FifoOptions};
-use rmx_edge::{FailAt, MemShelf, Shelf};
+use rmx_edge::{FailAt, MemShelf, Shelf, ShelfFault};
 use rmx_media::{
-    AacConfig, Config, Form, Format, Items, Kind, MuxStream, MuxStreams, Packet, StreamInfo,
-    read_aac_config,
+    Config, Form, Format, Items, Kind, MuxStream, MuxStreams, Packet, StreamInfo, read_aac_config,
+    read_avc_config,
 };
 use std::alloc::Global;
 use std::test::Fail;
@@ -35,23 +39,49 @@ const RECOVERS: FifoOptions = FifoOptions {
     ..PLAIN
 };
 
-fn config(alloc: Global) -> Result<AacConfig, Fail>
-    ensures { IfOk result (λ c. IsReadAac c) }
+const RESTARTS: FifoOptions = FifoOptions {
+    restart: true,
+    ..RECOVERS
+};
+
+const AVC: [u8; 17] = [
+    0x01, 0x42, 0x00, 0x1E, 0xFF, 0xE1, 0x00, 0x04, 0x67, 0x42, 0x00, 0x1E, 0x01, 0x00, 0x02, 0x68,
+    0xCE,
+];
+
+const AAC: [u8; 2] = [0x12, 0x10];
+
+fn format(kind: Kind) -> Format
+    ensures { result ≡ format_for kind }
 {
-    let raw = Bytes::copy_from_slice(alloc, &[0x12, 0x10])?;
-    match read_aac_config(raw) {
-        Ok(config) => Ok(config),
-        Err(fault) => Err(Fail::from(fault)),
+    match kind {
+        Kind::Audio => Format::Adts,
+        Kind::Video => Format::Mpegts,
     }
 }
 
-// The stream 1, audio.
-fn streams(alloc: Global) -> Result<MuxStreams, Fail>
-    ensures { IfOk result (λ m. CanMux m × (kind_in m.streams.items 1 ≡ Some Audio)) }
+fn config(alloc: Global, kind: Kind) -> Result<Config, Fail>
+    ensures { IfOk result (λ c. IsAsRead c × (kind_of c ≡ kind)) }
+{
+    match kind {
+        Kind::Audio => match read_aac_config(Bytes::copy_from_slice(alloc, &AAC)?) {
+            Ok(config) => Ok(Config::Aac(config)),
+            Err(fault) => Err(Fail::from(fault)),
+        },
+        Kind::Video => match read_avc_config(Bytes::copy_from_slice(alloc, &AVC)?) {
+            Ok(config) => Ok(Config::Avc(config)),
+            Err(fault) => Err(Fail::from(fault)),
+        },
+    }
+}
+
+// The stream 1.
+fn streams(alloc: Global, kind: Kind) -> Result<MuxStreams, Fail>
+    ensures { IfOk result (λ m. CanMux m × (kind_in m.streams.items 1 ≡ Some kind)) }
 {
     let info = StreamInfo {
-        kind: Kind::Audio,
-        config: Config::Aac(config(alloc)?),
+        kind,
+        config: config(alloc, kind)?,
     };
     let stream = MuxStream { stream: 1, info };
     Ok(MuxStreams {
@@ -60,42 +90,84 @@ fn streams(alloc: Global) -> Result<MuxStreams, Fail>
     })
 }
 
-fn packet(alloc: Global, time: u16, index: u64) -> Result<Packet, Fail>
+fn audio_packet(alloc: Global, time: u16, index: u64) -> Result<Packet, Fail>
     ensures { IfOk result (λ p. (m : MuxStreams) → kind_in m.streams.items 1 ≡ Some Audio → Fits format.Adts m p) }
 {
     let byte = 0x21 + (index % 16) as u8;
-    Ok(Packet {
-        stream: 1,
-        dts: i64::from(time),
-        pts: i64::from(time),
-        key: true,
-        form: Form::Native,
-        payload: Bytes::copy_from_slice(alloc, &[byte])?,
-        config: Config::Aac(config(alloc)?),
-        version: 0,
-    })
+    match config(alloc, Kind::Audio)? {
+        Config::Aac(config) => Ok(Packet {
+            stream: 1,
+            dts: i64::from(time),
+            pts: i64::from(time),
+            key: true,
+            form: Form::Native,
+            payload: Bytes::copy_from_slice(alloc, &[byte])?,
+            config: Config::Aac(config),
+            version: 0,
+        }),
+        Config::Avc(_) => unreachable!(),
+    }
+}
+
+// A unit behind its length field.
+fn unit(alloc: Global, key: bool) -> Result<Bytes, Fail>
+    ensures valid { IfOk result (λ b. is_valid 4 b ≡ true) }
+    ensures size { IfOk result (λ b. length b ≡ 6) }
+{
+    let first = if key { 0x65 } else { 0x41 };
+    Ok(Bytes::copy_from_slice(alloc, &[0, 0, 0, 2, first, 0x88])?)
+}
+
+fn video_packet(alloc: Global, time: u16, index: u64) -> Result<Packet, Fail>
+    ensures { IfOk result (λ p. (m : MuxStreams) → kind_in m.streams.items 1 ≡ Some Video → Fits format.Mpegts m p) }
+{
+    let key = index % 2 == 0;
+    let payload = unit(alloc, key)?;
+    match config(alloc, Kind::Video)? {
+        Config::Avc(config) if config.length_size == 4 => Ok(Packet {
+            stream: 1,
+            dts: i64::from(time),
+            pts: i64::from(time),
+            key,
+            form: Form::Native,
+            payload,
+            config: Config::Avc(config),
+            version: 0,
+        }),
+        _ => Err(Fail::new("other length fields")),
+    }
+}
+
+fn packet(alloc: Global, kind: Kind, time: u16, index: u64) -> Result<Packet, Fail>
+    ensures { IfOk result (λ p. (m : MuxStreams) → kind_in m.streams.items 1 ≡ Some kind → Fits (format_for kind) m p) }
+{
+    match kind {
+        Kind::Audio => audio_packet(alloc, time, index),
+        Kind::Video => video_packet(alloc, time, index),
+    }
 }
 
 // An output of a packet at each of these times.
 fn written<S: Shelf + Drop>(
     alloc: Global,
     options: FifoOptions,
+    kind: Kind,
     times: &[u16],
     shelf: S,
 ) -> Result<SlaveEnd<S>, Fail>
     requires idle { (S.state shelf).writing ≡ false }
     requires few { length times.now < 2 ^ 61 }
 {
-    let name = String::from_str(alloc, "a.aac")?;
-    let streams = streams(alloc)?;
-    let mut job = match SlaveJob::new(alloc, name, Format::Adts, options, streams, shelf) {
+    let name = String::from_str(alloc, "a")?;
+    let streams = streams(alloc, kind)?;
+    let mut job = match SlaveJob::new(alloc, name, format(kind), options, streams, shelf) {
         Ok(job) => job,
         Err((_, refused)) => return Err(Fail::from(refused)),
     };
     job.start();
     let mut index = 0;
     for time in times {
-        let p = packet(alloc, *time, index)?;
+        let p = packet(alloc, kind, *time, index)?;
         job.write_direct(index, &p);
         index += 1;
     }
@@ -127,7 +199,13 @@ fn failing(alloc: Global, calls: &[u64], keep: u32) -> Result<MemShelf, Fail>
 // Without a fault there is one file.
 #[test]
 fn one_file(rt: HostRuntime) -> Result<(), Fail> {
-    let end = written(rt.alloc(), PLAIN, &[0, 23], MemShelf::new(rt.alloc()))?;
+    let end = written(
+        rt.alloc(),
+        PLAIN,
+        Kind::Audio,
+        &[0, 23],
+        MemShelf::new(rt.alloc()),
+    )?;
     assert_eq!(rt; end.state, EndState::Closed);
     assert_eq!(rt;
         end.fates.as_slice(),
@@ -147,7 +225,7 @@ fn one_file(rt: HostRuntime) -> Result<(), Fail> {
 #[test]
 fn a_packet_stands_in_the_next_file(rt: HostRuntime) -> Result<(), Fail> {
     let shelf = failing(rt.alloc(), &[3], 2)?;
-    let end = written(rt.alloc(), RECOVERS, &[0, 23, 46], shelf)?;
+    let end = written(rt.alloc(), RECOVERS, Kind::Audio, &[0, 23, 46], shelf)?;
     assert_eq!(rt; end.state, EndState::Closed);
     let fates = [run(Fate::Written(0), 0, 1), run(Fate::Written(1), 1, 2)];
     assert_eq!(rt; end.fates.as_slice(), fates.as_slice());
@@ -168,16 +246,16 @@ fn a_packet_stands_in_the_next_file(rt: HostRuntime) -> Result<(), Fail> {
 #[test]
 fn the_second_file_has_its_own_name(rt: HostRuntime) -> Result<(), Fail> {
     let shelf = failing(rt.alloc(), &[3], 2)?;
-    let end = written(rt.alloc(), RECOVERS, &[0, 23, 46], shelf)?;
+    let end = written(rt.alloc(), RECOVERS, Kind::Audio, &[0, 23, 46], shelf)?;
     let shelf = end.shelf;
     assert_eq!(rt; shelf.take_count(), 2);
-    assert_eq!(rt; shelf.take_name(0), "a.aac");
+    assert_eq!(rt; shelf.take_name(0), "a");
     assert_eq!(rt;
         shelf.take_bytes(0),
         [0xFF, 0xF1, 0x50, 0x80, 0x01, 0x1F, 0xFC, 0x21, 0xFF, 0xF1].as_slice()
     );
     assert!(rt; !shelf.take_closed(0));
-    assert_eq!(rt; shelf.take_name(1), "a.aac~1");
+    assert_eq!(rt; shelf.take_name(1), "a~1");
     let second = [
         0xFF, 0xF1, 0x50, 0x80, 0x01, 0x1F, 0xFC, 0x22, 0xFF, 0xF1, 0x50, 0x80, 0x01, 0x1F, 0xFC,
         0x23,
@@ -191,7 +269,7 @@ fn the_second_file_has_its_own_name(rt: HostRuntime) -> Result<(), Fail> {
 #[test]
 fn a_begin_fails(rt: HostRuntime) -> Result<(), Fail> {
     let shelf = failing(rt.alloc(), &[3, 4], 0)?;
-    let end = written(rt.alloc(), RECOVERS, &[0, 23, 46], shelf)?;
+    let end = written(rt.alloc(), RECOVERS, Kind::Audio, &[0, 23, 46], shelf)?;
     let fates = [
         run(Fate::Written(0), 0, 1),
         run(Fate::Lost(1), 1, 1),
@@ -210,7 +288,13 @@ fn a_begin_fails(rt: HostRuntime) -> Result<(), Fail> {
 // On a dead shelf an output is given up after so many attempts; 0 is no limit.
 #[test]
 fn attempts_are_counted(rt: HostRuntime) -> Result<(), Fail> {
-    let end = written(rt.alloc(), PLAIN, &[0], MemShelf::dead(rt.alloc()))?;
+    let end = written(
+        rt.alloc(),
+        PLAIN,
+        Kind::Audio,
+        &[0],
+        MemShelf::dead(rt.alloc()),
+    )?;
     assert_eq!(rt; end.state, EndState::Failed);
     assert_eq!(rt;
         end.fates.as_slice(),
@@ -221,7 +305,13 @@ fn attempts_are_counted(rt: HostRuntime) -> Result<(), Fail> {
         [session(0, false, false)].as_slice()
     );
     let times = [0, 23, 46];
-    let end = written(rt.alloc(), RECOVERS, &times, MemShelf::dead(rt.alloc()))?;
+    let end = written(
+        rt.alloc(),
+        RECOVERS,
+        Kind::Audio,
+        &times,
+        MemShelf::dead(rt.alloc()),
+    )?;
     let lost = [
         run(Fate::Lost(1), 0, 1),
         run(Fate::Lost(2), 1, 1),
@@ -232,14 +322,26 @@ fn attempts_are_counted(rt: HostRuntime) -> Result<(), Fail> {
         max_attempts: 1,
         ..RECOVERS
     };
-    let end = written(rt.alloc(), once, &times, MemShelf::dead(rt.alloc()))?;
+    let end = written(
+        rt.alloc(),
+        once,
+        Kind::Audio,
+        &times,
+        MemShelf::dead(rt.alloc()),
+    )?;
     let given_up = [run(Fate::Lost(1), 0, 1), run(Fate::AfterFailure(1), 1, 2)];
     assert_eq!(rt; end.fates.as_slice(), given_up.as_slice());
     let twice = FifoOptions {
         max_attempts: 2,
         ..RECOVERS
     };
-    let end = written(rt.alloc(), twice, &times, MemShelf::dead(rt.alloc()))?;
+    let end = written(
+        rt.alloc(),
+        twice,
+        Kind::Audio,
+        &times,
+        MemShelf::dead(rt.alloc()),
+    )?;
     let given_up = [
         run(Fate::Lost(1), 0, 1),
         run(Fate::Lost(2), 1, 1),
@@ -257,7 +359,7 @@ fn a_wait(rt: HostRuntime) -> Result<(), Fail> {
         ..RECOVERS
     };
     let shelf = failing(rt.alloc(), &[1], 0)?;
-    let end = written(rt.alloc(), waits, &[0, 50, 100, 200], shelf)?;
+    let end = written(rt.alloc(), waits, Kind::Audio, &[0, 50, 100, 200], shelf)?;
     let fates = [run(Fate::Lost(0), 0, 2), run(Fate::Written(1), 2, 2)];
     assert_eq!(rt; end.fates.as_slice(), fates.as_slice());
     Ok(())
@@ -268,7 +370,7 @@ fn a_wait(rt: HostRuntime) -> Result<(), Fail> {
 fn every_call_fails_once(rt: HostRuntime) -> Result<(), Fail> {
     for call in 0..6 {
         let shelf = failing(rt.alloc(), &[call], 1)?;
-        let end = written(rt.alloc(), PLAIN, &[0, 23], shelf)?;
+        let end = written(rt.alloc(), PLAIN, Kind::Audio, &[0, 23], shelf)?;
         let at = match call {
             0 => FaultAt::Begin,
             5 => FaultAt::End,
@@ -283,5 +385,184 @@ fn every_call_fails_once(rt: HostRuntime) -> Result<(), Fail> {
         assert_eq!(rt; end.faults.as_slice(), [fault].as_slice());
         assert_eq!(rt; end.state, EndState::Failed);
     }
+    Ok(())
+}
+
+// Whether a dead shelf leaves these fates to packets at 0, 50, 100, 150 and 200 ms.
+fn leaves(alloc: Global, options: FifoOptions, fates: &[Run]) -> Result<bool, Fail> {
+    let times = [0, 50, 100, 150, 200];
+    let shelf = MemShelf::dead(alloc);
+    let end = written(alloc, options, Kind::Audio, &times, shelf)?;
+    Ok(end.fates.as_slice() == fates && end.state == EndState::Failed)
+}
+
+// With a wait of 100 ms attempts come at 0, 100 and 200 ms, as far as so many are allowed.
+#[test]
+fn attempts_wait(rt: HostRuntime) -> Result<(), Fail> {
+    let waits = FifoOptions {
+        wait_ms: 100,
+        ..RECOVERS
+    };
+    let fates = [
+        run(Fate::Lost(1), 0, 2),
+        run(Fate::Lost(2), 2, 2),
+        run(Fate::Lost(3), 4, 1),
+    ];
+    assert!(rt; leaves(rt.alloc(), waits, &fates)?);
+    let once = FifoOptions {
+        max_attempts: 1,
+        ..waits
+    };
+    let fates = [run(Fate::Lost(1), 0, 1), run(Fate::AfterFailure(1), 1, 4)];
+    assert!(rt; leaves(rt.alloc(), once, &fates)?);
+    let twice = FifoOptions {
+        max_attempts: 2,
+        ..waits
+    };
+    let fates = [
+        run(Fate::Lost(1), 0, 2),
+        run(Fate::Lost(2), 2, 1),
+        run(Fate::AfterFailure(2), 3, 2),
+    ];
+    assert!(rt; leaves(rt.alloc(), twice, &fates)?);
+    Ok(())
+}
+
+// The first cell of the second packet, which is no key packet, fails behind a create, two tables and a cell. That packet
+// then waits for a key packet, and the third one begins the second file.
+#[test]
+fn a_key_packet_begins_the_next_file(rt: HostRuntime) -> Result<(), Fail> {
+    let shelf = failing(rt.alloc(), &[4], 0)?;
+    let end = written(rt.alloc(), RESTARTS, Kind::Video, &[0, 40, 80], shelf)?;
+    assert_eq!(rt; end.state, EndState::Closed);
+    let fates = [
+        run(Fate::Written(0), 0, 1),
+        run(Fate::KeyWait, 1, 1),
+        run(Fate::Written(1), 2, 1),
+    ];
+    assert_eq!(rt; end.fates.as_slice(), fates.as_slice());
+    let sessions = [session(0, true, false), session(1, true, true)];
+    assert_eq!(rt; end.sessions.as_slice(), sessions.as_slice());
+    let fault = FaultNote {
+        session: 0,
+        at: FaultAt::Put(1),
+        before: 0,
+        after: 1,
+    };
+    assert_eq!(rt; end.faults.as_slice(), [fault].as_slice());
+    assert_eq!(rt; end.bytes, 6 * 188);
+    assert_eq!(rt; end.shelf.take_count(), 2);
+    assert_eq!(rt; end.shelf.take_bytes(0).len(), 3 * 188);
+    assert_eq!(rt; end.shelf.take_bytes(1).len(), 3 * 188);
+    Ok(())
+}
+
+// A shelf that tells nothing of its files, and refuses the flush of this number, from 0.
+#[derive(Drop)]
+struct Refusing {
+    refused: u64,
+    flushes: u64,
+    writing: bool,
+    faults: u64,
+    ghost small: { faults < 2 ^ 64 },
+}
+
+impl Shelf for Refusing {
+    ghost state = { λ s. record { takes = None; calls = None; accepted = None; writing = s.writing; faults = s.faults; wants = 0; sound = false } };
+
+    fn create(&mut self, _: &str) -> Result<(), ShelfFault> {
+        self.writing = true;
+        Ok(())
+    }
+
+    fn write(&mut self, _: &[u8]) -> Result<(), ShelfFault> {
+        Ok(())
+    }
+
+    fn close(&mut self) -> Result<(), ShelfFault> {
+        self.writing = false;
+        Ok(())
+    }
+
+    fn flush(&mut self) -> Result<(), ShelfFault> {
+        let refused = self.flushes == self.refused;
+        self.flushes = self.flushes.saturating_add(1);
+        if refused {
+            self.writing = false;
+            self.faults = self.faults.saturating_add(1);
+            return Err(ShelfFault::Failed);
+        }
+        Ok(())
+    }
+
+    fn fault_count(&self) -> u64 {
+        self.faults
+    }
+
+    fn want_count(&self) -> u64 {
+        0
+    }
+}
+
+// The flush behind the second packet is refused: the packet counts as failed, and is written again in a second file. The byte
+// that its last write had accepted doesn't count.
+#[test]
+fn a_flush_is_refused(rt: HostRuntime) -> Result<(), Fail> {
+    let shelf = Refusing {
+        refused: 1,
+        flushes: 0,
+        writing: false,
+        faults: 0,
+    };
+    let end = written(rt.alloc(), RECOVERS, Kind::Audio, &[0, 23, 46], shelf)?;
+    assert_eq!(rt; end.state, EndState::Closed);
+    let fates = [run(Fate::Written(0), 0, 1), run(Fate::Written(1), 1, 2)];
+    assert_eq!(rt; end.fates.as_slice(), fates.as_slice());
+    let sessions = [session(0, true, false), session(1, true, true)];
+    assert_eq!(rt; end.sessions.as_slice(), sessions.as_slice());
+    let fault = FaultNote {
+        session: 0,
+        at: FaultAt::Put(1),
+        before: 0,
+        after: 1,
+    };
+    assert_eq!(rt; end.faults.as_slice(), [fault].as_slice());
+    assert_eq!(rt; end.shelf.flushes, 4);
+    assert_eq!(rt; end.bytes, 8 + 7 + 8 + 8);
+    Ok(())
+}
+
+// The fate of a packet.
+fn fate_in(runs: &[Run], index: u64) -> Option<Fate> {
+    for run in runs {
+        if run.first <= index && index - run.first < run.count {
+            return Some(run.fate);
+        }
+    }
+    None
+}
+
+// Where memory is made to be wanted in this test, all packets from one on have that fate, or there is no end at all.
+#[test]
+fn memory_may_be_wanted(rt: HostRuntime) -> Result<(), Fail> {
+    let shelf = failing(rt.alloc(), &[3, 4], 0)?;
+    let end = written(rt.alloc(), RECOVERS, Kind::Audio, &[0, 23, 46], shelf)?;
+    let mut wanted = false;
+    for (index, fate) in [
+        (0, Fate::Written(0)),
+        (1, Fate::Lost(1)),
+        (2, Fate::Written(2)),
+    ] {
+        let found = fate_in(end.fates.as_slice(), index);
+        wanted = wanted || found == Some(Fate::NoMemory);
+        let right = if wanted { Fate::NoMemory } else { fate };
+        assert_eq!(rt; found, Some(right));
+    }
+    let right = if wanted {
+        EndState::NoMemory
+    } else {
+        EndState::Closed
+    };
+    assert_eq!(rt; end.state, right);
     Ok(())
 }

@@ -10,4 +10,5 @@ pub mod PieceLemmas
 pub mod RunLemmas
 pub mod Steps
 pub mod TableLemmas
+pub mod TimedLemmas
 pub mod UnitLemmas

@@ -6,4 +6,5 @@ pub mod Past
 pub mod Pes
 pub mod Sample
 pub mod Tables
+pub mod Timed
 pub mod Times

@@ -4,11 +4,13 @@ ghost use Rattle.std.specs.Ordering.{int_eq};
 ghost use Rattle.arrayvec.specs.ArrayVec.{array_vec_len};
 ghost use Rattle.rmx_media.specs.Config.{IsReadAac};
 ghost use Rattle.ts_mux.specs.Pes.{video_head, delimiter, delimited, audio_pes};
+ghost use Rattle.ts_mux.specs.Timed.{packet_of};
 ghost use Rattle.ts_mux.specs.Times.{IsTime};
 
 use crate::pes::{Front, append, head};
+use crate::timed::Timed;
 use aac_adts::adts_head;
-use rmx_media::{AacConfig, Form, Packet};
+use rmx_media::{AacConfig, Form};
 
 // Puts an access unit delimiter in front of a unit with this first byte, unless it is one.
 fn add_delimiter(front: &mut Front, first: u8)
@@ -43,23 +45,23 @@ fn size_of_times(pts: i64, dts: i64) -> u16
 }
 
 /// What stands before the payload of an audio packet.
-pub(crate) fn audio_front(packet: &Packet, config: &AacConfig) -> Front
-    requires pts { IsTime packet.now.pts }
-    requires dts { IsTime packet.now.dts }
-    requires size { length packet.now.payload ≤ 8191 }
-    requires native { packet.now.form ≡ Form.Native → length packet.now.payload ≤ 8184 }
+pub(crate) fn audio_front(timed: &Timed, config: &AacConfig) -> Front
+    requires pts { IsTime timed.now.pts }
+    requires dts { IsTime timed.now.dts }
+    requires size { length timed.now.packet.now.payload ≤ 8191 }
+    requires native { timed.now.packet.now.form ≡ Form.Native → length timed.now.packet.now.payload ≤ 8184 }
     requires config { IsReadAac config.now }
-    ensures items { result.items ++ packet.now.payload ≡ audio_pes config.now packet.now }
+    ensures items { result.items ++ timed.now.packet.now.payload ≡ audio_pes config.now (packet_of timed.now) }
     ensures len { array_vec_len result ≤ 26 }
 {
-    let after = size_of_times(packet.pts, packet.dts);
-    let size = packet.payload.len() as u16;
-    match packet.form {
+    let after = size_of_times(timed.pts, timed.dts);
+    let size = timed.packet.payload.len() as u16;
+    match timed.packet.form {
         Form::Native => {
-            let mut front = head(0xC0, after + 7 + size, packet.pts, packet.dts);
+            let mut front = head(0xC0, after + 7 + size, timed.pts, timed.dts);
             append(&mut front, &adts_head(config, u32::from(size)));
             front
         }
-        _ => head(0xC0, after + size, packet.pts, packet.dts),
+        _ => head(0xC0, after + size, timed.pts, timed.dts),
     }
 }

@@ -12,6 +12,7 @@ mod pes;
 mod pieces;
 mod program;
 mod tables;
+mod timed;
 mod times;
 mod track;
 

@@ -10,6 +10,7 @@ ghost use Rattle.rmx_media.specs.Streams.{CanMux};
 ghost use Rattle.ts_mux.specs.File.{begin_calls, put_calls, end_calls};
 ghost use Rattle.ts_mux.specs.Past.{track_of, with_tables, with_cells, step, tables_calls, cells_calls, calls_at};
 ghost use Rattle.ts_mux.specs.Pes.{pes_of, video_head, delimited, video_pes, audio_pes};
+ghost use Rattle.ts_mux.specs.Timed.{at_times, packet_of};
 ghost use Rattle.ts_mux.specs.Times.{IsTime};
 ghost use Rattle.ts_mux.specs.Tables.{AreTables};
 
@@ -21,6 +22,7 @@ use crate::pes::clock_flags;
 use crate::pieces::{Nothing, Source};
 use crate::program::{is_first, video_of};
 use crate::tables::Tables;
+use crate::timed::Timed;
 use crate::track::Track;
 use avc_units::{annexb_len, annexb_pieces};
 use rmx_edge::{Shelf, ShelfFault};
@@ -90,7 +92,31 @@ impl TsMux {
         ensures shows { OnOk result ((before : List PacketOf) → Shows self.old before → Shows self.new (before ++ p.now ∷ [])) }
         ensures ends { (before : List PacketOf) → EndsInWrite (put_calls (streams_of self.old) before p.now) }
     {
-        self.put_packet(p, shelf)
+        self.put_at(p, p.dts, p.pts, shelf)
+    }
+
+    /// Writes a packet as `put` does, at these times in place of its own.
+    pub fn put_at<S: Shelf>(
+        &mut self,
+        p: &Packet,
+        dts: i64,
+        pts: i64,
+        shelf: &mut S,
+    ) -> Result<(), ShelfFault>
+        requires begun { (S.state shelf.old).writing ≡ true }
+        requires fits { FitsLowered Format.Mpegts (streams_of self.old) (at_times dts pts p.now) }
+        ensures streams { streams_of self.new ≡ streams_of self.old }
+        ensures run { (before : List PacketOf) → Shows self.old before → Runs (put_calls (streams_of self.old) before (at_times dts pts p.now)) result (S.state shelf.old) (S.state shelf.new) }
+        ensures open { OnOk result ((S.state shelf.new).writing ≡ true) }
+        ensures shows { OnOk result ((before : List PacketOf) → Shows self.old before → Shows self.new (before ++ at_times dts pts p.now ∷ [])) }
+        ensures ends { (before : List PacketOf) → EndsInWrite (put_calls (streams_of self.old) before (at_times dts pts p.now)) }
+    {
+        let timed = Timed {
+            packet: p,
+            dts,
+            pts,
+        };
+        self.put_packet(&timed, shelf)
     }
 
     /// Ends the file that was begun.
@@ -123,36 +149,36 @@ impl TsMux {
     }
 
     // Writes a packet, and passes it.
-    fn put_packet<S: Shelf>(&mut self, packet: &Packet, shelf: &mut S) -> Result<(), ShelfFault>
+    fn put_packet<S: Shelf>(&mut self, timed: &Timed, shelf: &mut S) -> Result<(), ShelfFault>
         requires begun { (S.state shelf.old).writing ≡ true }
-        requires fits { FitsLowered Format.Mpegts (streams_of self.old) packet.now }
+        requires fits { FitsLowered Format.Mpegts (streams_of self.old) (packet_of timed.now) }
         ensures streams { streams_of self.new ≡ streams_of self.old }
-        ensures run { Runs (calls_at (list_of self.old) (past_of self.old) packet.now) result (S.state shelf.old) (S.state shelf.new) }
+        ensures run { Runs (calls_at (list_of self.old) (past_of self.old) (packet_of timed.now)) result (S.state shelf.old) (S.state shelf.new) }
         ensures open { OnOk result ((S.state shelf.new).writing ≡ true) }
-        ensures past { OnOk result (past_of self.new ≡ step (list_of self.old) (past_of self.old) packet.now) }
+        ensures past { OnOk result (past_of self.new ≡ step (list_of self.old) (past_of self.old) (packet_of timed.now)) }
     {
-        match self.put_tables(packet, shelf) {
+        match self.put_tables(timed, shelf) {
             Ok(()) => {}
             Err(fault) => return Err(fault),
         }
-        match &packet.config {
-            Config::Avc(config) => self.put_video(packet, config, shelf),
-            Config::Aac(config) => self.put_audio(packet, config, shelf),
+        match &timed.packet.config {
+            Config::Avc(config) => self.put_video(timed, config, shelf),
+            Config::Aac(config) => self.put_audio(timed, config, shelf),
         }
     }
 
     // Writes the tables, where they come before a packet.
-    fn put_tables<S: Shelf>(&mut self, packet: &Packet, shelf: &mut S) -> Result<(), ShelfFault>
+    fn put_tables<S: Shelf>(&mut self, timed: &Timed, shelf: &mut S) -> Result<(), ShelfFault>
         requires begun { (S.state shelf.old).writing ≡ true }
-        requires dts { IsTime packet.now.dts }
+        requires dts { IsTime timed.now.dts }
         ensures streams { streams_of self.new ≡ streams_of self.old }
-        ensures run { Runs (tables_calls (list_of self.old) (past_of self.old) packet.now) result (S.state shelf.old) (S.state shelf.new) }
+        ensures run { Runs (tables_calls (list_of self.old) (past_of self.old) (packet_of timed.now)) result (S.state shelf.old) (S.state shelf.new) }
         ensures open { OnOk result ((S.state shelf.new).writing ≡ true) }
-        ensures past { OnOk result (past_of self.new ≡ with_tables (list_of self.old) packet.now (past_of self.old)) }
+        ensures past { OnOk result (past_of self.new ≡ with_tables (list_of self.old) (packet_of timed.now) (past_of self.old)) }
     {
-        let changed = packet.version != self.track(packet.stream).version;
-        let due = tables_due(self.last, changed, packet);
-        self.last = last_after(self.last, changed, packet);
+        let changed = timed.packet.version != self.track(timed.packet.stream).version;
+        let due = tables_due(self.last, changed, timed);
+        self.last = last_after(self.last, changed, timed);
         if due {
             return self.tables.write(shelf);
         }
@@ -162,38 +188,38 @@ impl TsMux {
     // Writes the cells of a video packet.
     fn put_video<S: Shelf>(
         &mut self,
-        packet: &Packet,
+        timed: &Timed,
         config: &AvcConfig,
         shelf: &mut S,
     ) -> Result<(), ShelfFault>
         requires begun { (S.state shelf.old).writing ≡ true }
-        requires pts { IsTime packet.now.pts }
-        requires dts { IsTime packet.now.dts }
-        requires config { packet.now.config ≡ Config.Avc config.now }
+        requires pts { IsTime timed.now.pts }
+        requires dts { IsTime timed.now.dts }
+        requires config { timed.now.packet.now.config ≡ Config.Avc config.now }
         requires read { IsReadAvc config.now }
-        requires payload { IsPayload (Config.Avc config.now) packet.now.form packet.now.payload }
-        requires size { length packet.now.payload ≤ 4294967295 }
+        requires payload { IsPayload (Config.Avc config.now) timed.now.packet.now.form timed.now.packet.now.payload }
+        requires size { length timed.now.packet.now.payload ≤ 4294967295 }
         ensures streams { streams_of self.new ≡ streams_of self.old }
-        ensures run { Runs (cells_calls (list_of self.old) (past_of self.old) packet.now) result (S.state shelf.old) (S.state shelf.new) }
+        ensures run { Runs (cells_calls (list_of self.old) (past_of self.old) (packet_of timed.now)) result (S.state shelf.old) (S.state shelf.new) }
         ensures open { OnOk result ((S.state shelf.new).writing ≡ true) }
-        ensures past { OnOk result (past_of self.new ≡ with_cells (list_of self.old) packet.now (past_of self.old)) }
+        ensures past { OnOk result (past_of self.new ≡ with_cells (list_of self.old) (packet_of timed.now) (past_of self.old)) }
     {
-        let payload = packet.payload.as_slice();
-        match packet.form {
+        let payload = timed.packet.payload.as_slice();
+        match timed.packet.form {
             Form::Native => {
                 let size = annexb_len(payload, config) as usize;
                 let mut units = Joined {
                     current: &[],
                     pieces: annexb_pieces(payload, config),
                 };
-                self.put_units(packet, size, &mut units, shelf)
+                self.put_units(timed, size, &mut units, shelf)
             }
             _ => {
                 let mut units = Joined {
                     current: payload,
                     pieces: Nothing,
                 };
-                self.put_units(packet, payload.len(), &mut units, shelf)
+                self.put_units(timed, payload.len(), &mut units, shelf)
             }
         }
     }
@@ -201,84 +227,84 @@ impl TsMux {
     // Writes the cells of a video packet with these units, which begin with a start code.
     fn put_units<'a, P: Source<'a>, S: Shelf>(
         &mut self,
-        packet: &Packet,
+        timed: &Timed,
         size: usize,
         units: &mut Joined<'a, P>,
         shelf: &mut S,
     ) -> Result<(), ShelfFault>
         requires begun { (S.state shelf.old).writing ≡ true }
-        requires pts { IsTime packet.now.pts }
-        requires dts { IsTime packet.now.dts }
+        requires pts { IsTime timed.now.pts }
+        requires dts { IsTime timed.now.dts }
         requires size { length (units.old.current.now ++ P.left units.old.pieces) ≡ size }
         requires some { 5 ≤ size }
-        requires pes { pes_of packet.now ≡ video_head packet.now.pts packet.now.dts ++ delimited (units.old.current.now ++ P.left units.old.pieces) }
+        requires pes { pes_of (packet_of timed.now) ≡ video_head timed.now.pts timed.now.dts ++ delimited (units.old.current.now ++ P.left units.old.pieces) }
         ensures streams { streams_of self.new ≡ streams_of self.old }
-        ensures run { Runs (cells_calls (list_of self.old) (past_of self.old) packet.now) result (S.state shelf.old) (S.state shelf.new) }
+        ensures run { Runs (cells_calls (list_of self.old) (past_of self.old) (packet_of timed.now)) result (S.state shelf.old) (S.state shelf.new) }
         ensures open { OnOk result ((S.state shelf.new).writing ≡ true) }
-        ensures past { OnOk result (past_of self.new ≡ with_cells (list_of self.old) packet.now (past_of self.old)) }
+        ensures past { OnOk result (past_of self.new ≡ with_cells (list_of self.old) (packet_of timed.now) (past_of self.old)) }
     {
         let mut start = [0; 5];
         units.fill(&mut start);
-        let front = video_front(packet.pts, packet.dts, &start);
-        self.put_cells(packet, front.as_slice(), size - 5, units, shelf)
+        let front = video_front(timed.pts, timed.dts, &start);
+        self.put_cells(timed, front.as_slice(), size - 5, units, shelf)
     }
 
     // Writes the cells of an audio packet.
     fn put_audio<S: Shelf>(
         &mut self,
-        packet: &Packet,
+        timed: &Timed,
         config: &AacConfig,
         shelf: &mut S,
     ) -> Result<(), ShelfFault>
         requires begun { (S.state shelf.old).writing ≡ true }
-        requires pts { IsTime packet.now.pts }
-        requires dts { IsTime packet.now.dts }
-        requires config { packet.now.config ≡ Config.Aac config.now }
+        requires pts { IsTime timed.now.pts }
+        requires dts { IsTime timed.now.dts }
+        requires config { timed.now.packet.now.config ≡ Config.Aac config.now }
         requires read { IsReadAac config.now }
-        requires payload { IsPayload (Config.Aac config.now) packet.now.form packet.now.payload }
+        requires payload { IsPayload (Config.Aac config.now) timed.now.packet.now.form timed.now.packet.now.payload }
         ensures streams { streams_of self.new ≡ streams_of self.old }
-        ensures run { Runs (cells_calls (list_of self.old) (past_of self.old) packet.now) result (S.state shelf.old) (S.state shelf.new) }
+        ensures run { Runs (cells_calls (list_of self.old) (past_of self.old) (packet_of timed.now)) result (S.state shelf.old) (S.state shelf.new) }
         ensures open { OnOk result ((S.state shelf.new).writing ≡ true) }
-        ensures past { OnOk result (past_of self.new ≡ with_cells (list_of self.old) packet.now (past_of self.old)) }
+        ensures past { OnOk result (past_of self.new ≡ with_cells (list_of self.old) (packet_of timed.now) (past_of self.old)) }
     {
-        let front = audio_front(packet, config);
-        let payload = packet.payload.as_slice();
+        let front = audio_front(timed, config);
+        let payload = timed.packet.payload.as_slice();
         let mut rest = Joined {
             current: payload,
             pieces: Nothing,
         };
-        self.put_cells(packet, front.as_slice(), payload.len(), &mut rest, shelf)
+        self.put_cells(timed, front.as_slice(), payload.len(), &mut rest, shelf)
     }
 
     // Writes the cells of a packet, and counts them.
     fn put_cells<'a, P: Source<'a>, S: Shelf>(
         &mut self,
-        packet: &Packet,
+        timed: &Timed,
         head: &[u8],
         size: usize,
         bytes: &mut Joined<'a, P>,
         shelf: &mut S,
     ) -> Result<(), ShelfFault>
         requires begun { (S.state shelf.old).writing ≡ true }
-        requires dts { IsTime packet.now.dts }
+        requires dts { IsTime timed.now.dts }
         requires head { length head.now ≤ 32 }
         requires size { length (bytes.old.current.now ++ P.left bytes.old.pieces) ≡ size }
-        requires pes { pes_of packet.now ≡ head.now ++ (bytes.old.current.now ++ P.left bytes.old.pieces) }
+        requires pes { pes_of (packet_of timed.now) ≡ head.now ++ (bytes.old.current.now ++ P.left bytes.old.pieces) }
         ensures streams { streams_of self.new ≡ streams_of self.old }
-        ensures run { Runs (cells_calls (list_of self.old) (past_of self.old) packet.now) result (S.state shelf.old) (S.state shelf.new) }
+        ensures run { Runs (cells_calls (list_of self.old) (past_of self.old) (packet_of timed.now)) result (S.state shelf.old) (S.state shelf.new) }
         ensures open { OnOk result ((S.state shelf.new).writing ≡ true) }
-        ensures past { OnOk result (past_of self.new ≡ with_cells (list_of self.old) packet.now (past_of self.old)) }
+        ensures past { OnOk result (past_of self.new ≡ with_cells (list_of self.old) (packet_of timed.now) (past_of self.old)) }
     {
         let streams = self.streams.streams.as_slice();
-        if is_first(streams, packet.stream) {
-            let flags = clock_flags(is_restart(packet, video_of(streams)), packet.dts);
+        if is_first(streams, timed.packet.stream) {
+            let flags = clock_flags(is_restart(timed.packet, video_of(streams)), timed.dts);
             let opening = Opening {
                 pid: 0x100,
                 flags: &flags,
                 room: 176,
                 head,
             };
-            self.first.version = packet.version;
+            self.first.version = timed.packet.version;
             return write_cells(shelf, &opening, &mut self.first.cells, size, bytes);
         }
         let opening = Opening {
@@ -287,7 +313,7 @@ impl TsMux {
             room: 184,
             head,
         };
-        self.second.version = packet.version;
+        self.second.version = timed.packet.version;
         write_cells(shelf, &opening, &mut self.second.cells, size, bytes)
     }
 }

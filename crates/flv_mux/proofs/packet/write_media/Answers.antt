@@ -8,11 +8,12 @@ use Rattle.rmx_media.specs.Bits.{bytes_of}
 use Rattle.rmx_edge.specs.Pieces.{writes}
 use Rattle.rmx_edge.specs.Run.{Runs}
 use Rattle.flv_mux.specs.Flv.{tag_pieces, tag_kind, media_lead}
+use Rattle.flv_mux.specs.Timed.{packet_of}
 use Rattle.flv_mux.proofs.packet.write_media.Goals as goal
 
 pub returns-in-Avc-clause-run : goal.returns-in-Avc-clause-run
 returns-in-Avc-clause-run g c =
-    let p = c.args.p.now in
+    let p = packet_of c.args.p.now in
     let start = g.S.Shelf.state c.args.shelf.now in
     let end = g.S.Shelf.state c.write_tag.new.shelf in
     let fits_dts : SFits w64 p.dts = search rules in
@@ -30,7 +31,7 @@ returns-in-Avc-clause-run g c =
 
 pub returns-in-Aac-clause-run : goal.returns-in-Aac-clause-run
 returns-in-Aac-clause-run g c =
-    let p = c.args.p.now in
+    let p = packet_of c.args.p.now in
     let start = g.S.Shelf.state c.args.shelf.now in
     let end = g.S.Shelf.state c.write_tag-in-Aac.new.shelf in
     let fits : SFits w64 p.dts = search rules in

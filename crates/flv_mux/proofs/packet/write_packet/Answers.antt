@@ -7,11 +7,12 @@ use Rattle.rmx_edge.specs.Pieces.{writes}
 use Rattle.rmx_edge.specs.Run.{Runs}
 use Rattle.rmx_edge.proofs.Writing.{pieces_then, pieces_stopped}
 use Rattle.flv_mux.specs.Flv.{config_pieces, media_pieces}
+use Rattle.flv_mux.specs.Timed.{packet_of}
 use Rattle.flv_mux.proofs.packet.write_packet.Goals as goal
 
 pub returns-in-Ok-clause-run : goal.returns-in-Ok-clause-run
 returns-in-Ok-clause-run g c =
-    let p = c.args.p.now in
+    let p = packet_of c.args.p.now in
     let fits : SFits w64 p.dts = search rules in
     let start = g.S.Shelf.state c.args.shelf.now in
     let media : List (List ℕ) = media_pieces p in
@@ -21,7 +22,7 @@ returns-in-Ok-clause-run g c =
 
 pub returns-in-Err-clause-run : goal.returns-in-Err-clause-run
 returns-in-Err-clause-run g c =
-    let p = c.args.p.now in
+    let p = packet_of c.args.p.now in
     let fits : SFits w64 p.dts = search rules in
     let start = g.S.Shelf.state c.args.shelf.now in
     let end = g.S.Shelf.state c.write_config.new.shelf in

@@ -1,15 +1,14 @@
 use Rattle.std.proofs.Common.{[], ◌∷◌, ◌++◌, refl, arith, length-append}
 use Rattle.std.specs.Prelude.{string_bytes}
 use Rattle.rmx_edge.specs.Counted.{with_count}
-use Rattle.rmx_media.specs.declared.packet.Format.TheVariants as format
 use Rattle.slave.specs.Origin.{Origin}
 use Rattle.slave.specs.Table.{Takes}
 use Rattle.slave.proofs.tests.written.Goals as goal
 
 pub loop-time-init : goal.loop-time-init
 loop-time-init g c =
-    let out : Origin = record { shelf = with_count (g.S.Shelf.state c.args.shelf) 0 0; name = string_bytes c.in_ok-name.name; format = format.Adts; streams = c.in_ok-streams.streams } in
-    (out, c.args.options, [], c.start.ensures out c.args.options c.in-Ok.ensures.fresh, refl, refl, refl, c.in_ok-streams.ensures.1)
+    let out : Origin = record { shelf = with_count (g.S.Shelf.state c.args.shelf) 0 0; name = string_bytes c.in_ok-name.name; format = c.format.result; streams = c.in_ok-streams.streams } in
+    (out, c.args.options, [], c.start.ensures out c.args.options c.in-Ok.ensures.fresh, refl, refl, c.format.ensures, c.in_ok-streams.ensures.1)
 
 pub loop-time-preserved : goal.loop-time-preserved
 loop-time-preserved g c =
@@ -19,7 +18,7 @@ loop-time-preserved g c =
       k.0,
       k.1,
       k.2 ++ p ∷ [],
-      c.write_direct.ensures k.0 k.1 k.2 k.3 k.4 takes,
+      (c.write_direct.ensures k.0 k.1 k.2 k.3 k.4 takes).keeps,
       omega (arith, length-append k.2 (p ∷ []), k.4),
       omega (arith, k.5),
       k.6,

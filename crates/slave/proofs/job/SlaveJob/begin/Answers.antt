@@ -12,6 +12,8 @@ returns-in-Ok g c = λ h kit.
         made = (run.calls_made, c.in-Ok.ensures.open refl, refl, refl);
         counts = run.faults;
         want_counts = run.wants;
+        sound = λ e. (let s = run.sound e in (s.sound, s.faults));
+        safe = λ e x. cc x;
         kit = record { name = kit.name; short = kit.short; counts = kit.counts; video = kit.video; mux = c.in-Ok.ensures.of h kit.mux };
         fifo = refl;
         runs = refl;
@@ -19,7 +21,7 @@ returns-in-Ok g c = λ h kit.
         sessions = refl;
         session_places = refl;
       };
-      mux = λ e. c.in-Ok.ensures.after h kit.mux refl;
+      writer = λ e. record { mux = c.in-Ok.ensures.after h kit.mux refl; flushed = λ some. absurd (some refl) };
     }
 
 pub returns-in-Err-NoMemory : goal.returns-in-Err-NoMemory
@@ -30,6 +32,8 @@ returns-in-Err-NoMemory g c = λ h kit.
         made = (run.calls_made, run.writing, refl, refl, run.no_memory refl);
         counts = run.faults;
         want_counts = run.wants;
+        sound = λ e. (let s = run.sound e in (s.sound, s.faults));
+        safe = λ e x. cc x;
         kit = record { name = kit.name; short = kit.short; counts = kit.counts; video = kit.video; mux = c.in-Err-NoMemory.ensures.of h kit.mux };
         fifo = refl;
         runs = refl;
@@ -37,7 +41,7 @@ returns-in-Err-NoMemory g c = λ h kit.
         sessions = refl;
         session_places = refl;
       };
-      mux = λ e. absurd (cc e);
+      writer = λ e. absurd (cc e);
     }
 
 pub returns-in-Err-Failed : goal.returns-in-Err-Failed
@@ -48,6 +52,8 @@ returns-in-Err-Failed g c = λ h kit.
         made = (run.calls_made, run.writing, c.push.ensures.items ∙ rw (c.session-session.ensures.number, c.fault_count-before.ensures, c.fault_count.ensures) refl, c.push.ensures.spare, run.failed refl);
         counts = run.faults;
         want_counts = run.wants;
+        sound = λ e. (let s = run.sound e in (s.sound, s.faults));
+        safe = λ e x. (run.sound e).ok refl;
         kit = record { name = kit.name; short = kit.short; counts = kit.counts; video = kit.video; mux = c.in-Err-Failed.ensures.of h kit.mux };
         fifo = refl;
         runs = refl;
@@ -55,5 +61,5 @@ returns-in-Err-Failed g c = λ h kit.
         sessions = refl;
         session_places = refl;
       };
-      mux = λ e. absurd (cc e);
+      writer = λ e. absurd (cc e);
     }

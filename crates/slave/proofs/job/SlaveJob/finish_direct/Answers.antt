@@ -2,7 +2,9 @@ use Rattle.std.proofs.Common.{None, refl, sym, ap, ◌∙◌}
 use Rattle.fifo_core.specs.State.{Shows, hand_of}
 use Rattle.slave.specs.Job.{view_of}
 use Rattle.slave.specs.End.{end_view}
+use Rattle.slave.specs.Watched.{inner}
 use Rattle.slave.proofs.Finish.{EndTells, live_now, ended_closed, ended_live}
+use Rattle.slave.proofs.GivenUp.{dead_shut, dead_unclosed}
 use Rattle.slave.proofs.job.SlaveJob.finish_direct.Goals as goal
 
 pub end-answer-requires-clause-writing : goal.end-answer-requires-clause-writing
@@ -20,8 +22,8 @@ end-answer-requires-clause-place g c =
 pub end-answer-requires-clause-kit : goal.end-answer-requires-clause-kit
 end-answer-requires-clause-kit g c = (c.requires.0, c.requires.3.stands.kit)
 
-pub returns-then-is_live : goal.returns-then-is_live
-returns-then-is_live g c = λ out o L k.
+pub returns-then-is_live-clause-ended : goal.returns-then-is_live-clause-ended
+returns-then-is_live-clause-ended g c = λ out o L k.
     let b = c.is_live.ensures o k.history None k.stands.shows in
     let n = live_now k c.is_live.result c.if-is_live.true b in
     let written = k.stands.table.last.last.written in
@@ -29,8 +31,8 @@ returns-then-is_live g c = λ out o L k.
     let shows : Shows o k.history None c.end-answer.new.self.fifo = rw closes.fifo k.stands.shows in
     let i = c.into_end.ensures in
     let told : EndTells (view_of g.S.Shelf.state c.end-answer.new.self) (end_view g.S.Shelf.state c.into_end.result) = record {
-      before = c.end-answer.new.self.shelf.before;
-      added = c.end-answer.new.self.shelf.last;
+      before = (inner c.end-answer.new.self.shelf).before;
+      added = (inner c.end-answer.new.self.shelf).last;
       shelf = rw i.shelf refl;
       bytes = i.bytes;
       fates = i.fates;
@@ -41,13 +43,13 @@ returns-then-is_live g c = λ out o L k.
     ended_live (view_of g.S.Shelf.state c.args.self) (view_of g.S.Shelf.state c.end-answer.new.self) (end_view g.S.Shelf.state c.into_end.result) k n.0 n.1 told
     c.end-answer.result closes (i.state ∙ c.on_end-state.ensures.state o k.history shows) (sym b ∙ c.if-is_live.true)
 
-pub returns-else-is_live : goal.returns-else-is_live
-returns-else-is_live g c = λ out o L k.
+pub returns-else-is_live-clause-ended : goal.returns-else-is_live-clause-ended
+returns-else-is_live-clause-ended g c = λ out o L k.
     let b = c.is_live.ensures o k.history None k.stands.shows in
     let i = c.into_end-else-is_live.ensures in
     let told : EndTells (view_of g.S.Shelf.state c.args.self) (end_view g.S.Shelf.state c.into_end-else-is_live.result) = record {
-      before = c.args.self.shelf.before;
-      added = c.args.self.shelf.last;
+      before = (inner c.args.self.shelf).before;
+      added = (inner c.args.self.shelf).last;
       shelf = rw i.shelf refl;
       bytes = i.bytes;
       fates = i.fates;
@@ -64,3 +66,12 @@ on_end-state-requires g c =
     let n = live_now k c.is_live.result c.if-is_live.true (c.is_live.ensures c.requires.1 k.history None k.stands.shows) in
     let closes = c.end-answer.ensures c.requires.0 k.stands.table.last.last.written k.stands.kit (k.stands.table.last.is_open n.0 n.1).1 in
     record { free = ap hand_of closes.fifo ∙ k.stands.shows.in_hand }
+
+pub returns-then-is_live-clause-given_up : goal.returns-then-is_live-clause-given_up
+returns-then-is_live-clause-given_up g c = λ out o L k d.
+    absurd (dead_shut o k.history c.is_live.result c.if-is_live.true (c.is_live.ensures o k.history None k.stands.shows) d)
+
+pub returns-else-is_live-clause-given_up : goal.returns-else-is_live-clause-given_up
+returns-else-is_live-clause-given_up g c = λ out o L k d.
+    dead_unclosed o k.history None _ (sym c.if-is_live.false ∙ c.is_live.ensures o k.history None k.stands.shows)
+    (c.into_end-else-is_live.ensures.state ∙ c.on_end-state-else-is_live.ensures.state o k.history k.stands.shows) d

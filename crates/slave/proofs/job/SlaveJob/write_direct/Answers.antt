@@ -2,7 +2,7 @@ use Rattle.std.proofs.Common.{inl, inr, None, refl, ◌∷◌}
 use Rattle.fifo_core.specs.State.{Shows}
 use Rattle.fifo_core.specs.History.{Want}
 use Rattle.slave.specs.Job.{view_of}
-use Rattle.slave.proofs.Turns.{roomy_primed, refused_primed, keeps_on}
+use Rattle.slave.proofs.Turns.{roomy_primed, refused_primed, grows}
 use Rattle.slave.proofs.Room.{refused_room}
 use Rattle.slave.proofs.job.SlaveJob.write_direct.Goals as goal
 
@@ -42,7 +42,7 @@ returns-then-make_room g c = λ out o L d e takes.
     let k = d.stands in
     let f = c.facts-facts.ensures out k.kit in
     let t = roomy_primed c.args.index c.facts-facts.result c.expected-expected.result c.make_room.result (view_of g.S.Shelf.state c.args.self.now) (view_of g.S.Shelf.state c.make_room.new.self) k c.make_room.ensures c.if-make_room.true e f (c.expected-expected.ensures o d.history k.shows) in
-    keeps_on d d.history (inl refl) (c.act.ensures out o L d.history t e takes)
+    grows d d.history (inl refl) (c.act.ensures out o L d.history t e takes)
 
 pub returns-else-make_room : goal.returns-else-make_room
 returns-else-make_room g c = λ out o L d e takes.
@@ -52,4 +52,4 @@ returns-else-make_room g c = λ out o L d e takes.
     let t = refused_primed c.args.index c.expected-expected.result c.make_room.result (view_of g.S.Shelf.state c.args.self.now) (view_of g.S.Shelf.state c.make_room.new.self) c.on_want.new.self k c.make_room.ensures
     (c.on_want.ensures.turn o d.history None shows) c.on_want.ensures.next
     (refused_room c.args.p.now c.args.index c.facts-facts.result c.expected-expected.result c.make_room.result (view_of g.S.Shelf.state c.args.self.now) (view_of g.S.Shelf.state c.make_room.new.self) d c.make_room.ensures c.if-make_room.false e f (c.expected-expected.ensures o d.history k.shows)) in
-    keeps_on d (Want ∷ d.history) (inr refl) (c.act-else-make_room.ensures out o L (Want ∷ d.history) t e takes)
+    grows d (Want ∷ d.history) (inr refl) (c.act-else-make_room.ensures out o L (Want ∷ d.history) t e takes)

@@ -7,6 +7,7 @@ use Rattle.ts_mux.specs.declared.track.Track.{Track}
 use Rattle.ts_mux.specs.File.{table_calls, tables_due}
 use Rattle.ts_mux.specs.Past.{is_new}
 use Rattle.ts_mux.specs.TsMux.{list_of, past_of}
+use Rattle.ts_mux.specs.Timed.{packet_of}
 use Rattle.ts_mux.proofs.MuxLemmas.{calls_shown}
 use Rattle.ts_mux.proofs.TableLemmas.{calls_are}
 use Rattle.ts_mux.proofs.mux.TsMux.put_tables.Goals as goal
@@ -14,7 +15,7 @@ use Rattle.ts_mux.proofs.mux.TsMux.put_tables.Goals as goal
 pub returns-then-due-clause-run : goal.returns-then-due-clause-run
 returns-then-due-clause-run g c =
     let streams : List MuxStream = list_of c.args.self.now in
-    let p : Packet = c.args.packet.now in
+    let p : Packet = packet_of c.args.timed.now in
     let counter : ℕ = c.args.self.now.tables.counter in
     let shown : tables_due c.args.self.now.last (is_new streams (past_of c.args.self.now) p) p ≡ true =
     ap (λ (t : Track). tables_due c.args.self.now.last (not (p.version == t.version)) p) (sym c.track.ensures) ∙ sym c.tables_due-due.ensures ∙ c.if-due.true in

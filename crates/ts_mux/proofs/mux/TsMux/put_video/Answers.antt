@@ -10,13 +10,14 @@ use Rattle.avc_units.specs.Pieces.{left_of}
 use Rattle.avc_units.specs.UnitList.{with_sets}
 use Rattle.std.specs.List.{concat}
 use Rattle.ts_mux.specs.Pes.{started_form}
+use Rattle.ts_mux.specs.Timed.{packet_of}
 use Rattle.ts_mux.proofs.MuxLemmas.{video_pes_is}
 use Rattle.ts_mux.proofs.UnitLemmas.{native_five, other_five, other_form}
 use Rattle.ts_mux.proofs.mux.TsMux.put_video.Goals as goal
 
 pub put_units-requires : goal.put_units-requires
 put_units-requires g c κs =
-    let p : Packet = c.args.packet.now in
+    let p : Packet = packet_of c.args.timed.now in
     let config : AvcConfig = c.args.config.now in
     let units : List (List ℕ) = with_sets (sets_of config) (units_of config.length_size p.payload) in
     let form : started_form config p.form p.payload ≡ annexb units = ap (λ (f : Form). started_form config f p.payload) c.in-Native.is in
@@ -43,7 +44,7 @@ put_units-requires g c κs =
 
 pub put_units-requires-in_default : goal.put_units-requires-in_default
 put_units-requires-in_default g c κs =
-    let p : Packet = c.args.packet.now in
+    let p : Packet = packet_of c.args.timed.now in
     let config : AvcConfig = c.args.config.now in
     let payload : List ℕ = c.as_slice-payload.result.now in
     let left : payload ++ [] ≡ p.payload = append-nil payload ∙ c.as_slice-payload.ensures in (

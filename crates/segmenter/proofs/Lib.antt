@@ -1,0 +1,11 @@
+pub mod ListLemmas
+pub mod SampleLemmas
+pub mod PutLemmas
+pub mod LawLemmas
+pub mod EndLemmas
+pub mod FileLemmas
+pub mod NearLemmas
+pub mod SessionLemmas
+pub mod TimelineLemmas
+pub mod TimesLemmas
+pub mod NumberLemmas

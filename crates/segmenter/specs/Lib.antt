@@ -1,0 +1,13 @@
+pub mod Calls
+pub mod Cuts
+pub mod Cutter
+pub mod Entries
+pub mod FileMux
+pub mod Laws
+pub mod Near
+pub mod Numbers
+pub mod Sample
+pub mod SegMux
+pub mod Session
+pub mod Timeline
+pub mod Times
