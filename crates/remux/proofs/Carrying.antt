@@ -12,7 +12,7 @@ use Rattle.flv_demux.specs.Deal.{packets_by, last_dts}
 use Rattle.interleaver.specs.Interleave.{interleave}
 use Rattle.interleaver.specs.Queues.{Pending, last_of}
 use Rattle.rmx_edge.specs.Inputs.{InputState}
-use Rattle.remux.specs.declared.outputs.Fed.TheVariants.{More, Stop}
+use Rattle.tee.specs.declared.fed.Fed.TheVariants.{More, Stop}
 use Rattle.remux.specs.declared.probe.Reached.{Reached}
 use Rattle.remux.specs.declared.probe.Reached.TheVariants as reached
 use Rattle.remux.specs.declared.read.ReadEnd.{ReadEnd}

@@ -7,7 +7,7 @@ use Rattle.rmx_media.specs.declared.packet.Packet.{Packet}
 use Rattle.interleaver.specs.Interleave.{Line, release, may_go}
 use Rattle.interleaver.proofs.Steps.{release_adds}
 use Rattle.interleaver.specs.Queues.{Pending, Pops, front_dts}
-use Rattle.remux.specs.declared.outputs.Fed.TheVariants.{More, Stop}
+use Rattle.tee.specs.declared.fed.Fed.TheVariants.{More, Stop}
 use Rattle.remux.specs.Fed.{Takes}
 use Rattle.remux.specs.Gave.{Advances, Gave, GaveSome}
 use Rattle.remux.specs.Handed.{GaveAll}

@@ -6,7 +6,7 @@ use Rattle.rmx_media.specs.declared.packet.Packet.{Packet}
 use Rattle.interleaver.specs.Interleave.{Line, release, may_go, IsLined, emitted}
 use Rattle.interleaver.specs.Queues.{Pending, Pushed, goes, last_of, front_dts}
 use Rattle.interleaver.proofs.Steps.{lined_push, lined_stuck, emitted_adds}
-use Rattle.remux.specs.declared.outputs.Fed.{Fed}
+use Rattle.tee.specs.declared.fed.Fed.{Fed}
 use Rattle.flv_demux.specs.Deal.{last_dts}
 use Rattle.remux.specs.Flow.{Flow}
 use Rattle.remux.proofs.Giving.{no_rise}

@@ -10,7 +10,9 @@ pub mod Flushing
 pub mod Starting
 pub mod Probing
 pub mod Carrying
-pub mod Writing
 pub mod Demuxing
+pub mod Putting
 pub mod Reporting
+pub mod Telling
+pub mod Endings
 pub mod Running

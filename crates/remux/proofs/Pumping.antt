@@ -13,7 +13,7 @@ use Rattle.flv_demux.proofs.Longer.{packets_by-append}
 use Rattle.interleaver.specs.Interleave.{Line, line_of, IsLined, emitted, interleave}
 use Rattle.interleaver.specs.Queues.{Pending, goes, last_of}
 use Rattle.interleaver.proofs.Steps.{lined_stuck, release_adds, emitted_adds}
-use Rattle.remux.specs.declared.outputs.Fed.TheVariants.{More, Stop}
+use Rattle.tee.specs.declared.fed.Fed.TheVariants.{More, Stop}
 use Rattle.remux.specs.Fit.{Each}
 use Rattle.remux.specs.Gave.{Advances}
 use Rattle.remux.specs.Flow.{Flow, Flowing, Stopped, CutShort}

@@ -1,19 +1,14 @@
--- A run from its input's first byte to its output's end.
-use Rattle.std.proofs.Common.{◌≡◌, ℕ, ◌+◌, ◌<◌, ◌≤◌, ◌⊎◌, inl, inr, Bool, true, false, List, [], ◌∷◌, ◌++◌, length, ap, ◌∙◌, sym, refl, subst, arith, length-append, Option, Some, None, Result, Ok, Err}
+-- A run from its input's first byte to its outputs' ends.
+use Rattle.std.proofs.Common.{◌≡◌, ℕ, ◌+◌, ◌<◌, ◌≤◌, ◌⊎◌, inl, inr, Bool, true, false, List, [], ◌∷◌, ◌++◌, length, ap, ◌∙◌, sym, refl, subst, arith, length-append, Option, Some, None, Ok, Err}
 use Rattle.std.proofs.lemmas.List.Elements.{All-append}
-use Rattle.std.specs.Prelude.{zero, suc, ◌^◌, ◌==◌, ℤ, pos, negsuc, ◌≤ℤ◌, IfSome, IsSomeAnd, All, is_some, if◌then◌else◌}
-use Rattle.std.proofs.lemmas.Int.{ints}
+use Rattle.std.specs.List.{list_all}
+use Rattle.std.specs.Option.{option_map}
+use Rattle.std.specs.Prelude.{zero, suc, MatchOption, ◌&&◌, ◌^◌, map, IfSome, IsSomeAnd, All, is_some, if◌then◌else◌}
 use Rattle.rmx_media.specs.declared.packet.Packet.{Packet}
-use Rattle.rmx_media.specs.declared.packet.Format.TheVariants.{Adts}
 use Rattle.rmx_media.specs.declared.config.Config.{Config}
-use Rattle.rmx_media.specs.declared.streams.Kind.{Kind}
 use Rattle.rmx_media.specs.declared.streams.Kind.TheVariants.{Video, Audio}
-use Rattle.rmx_media.specs.declared.streams.MuxStream.{MuxStream}
-use Rattle.rmx_media.specs.Config.{kind_of}
-use Rattle.rmx_media.specs.Fits.{FitsLowered}
-use Rattle.rmx_media.specs.Streams.{kind_in}
 use Rattle.rmx_media.specs.declared.streams.StreamInfo.{StreamInfo}
-use Rattle.rmx_media.specs.declared.streams.MuxStreams.{MuxStreams}
+use Rattle.rmx_media.specs.Streams.{kind_in}
 use Rattle.rmx_edge.specs.Inputs.{InputView, InputState, OnViews, OpensView, Opens}
 use Rattle.rmx_edge.specs.Shelf.{ShelfState}
 use Rattle.flv_tags.specs.declared.tag.Tag.{Tag}
@@ -24,15 +19,28 @@ use Rattle.flv_tags.proofs.Verdicts.{no_tags}
 use Rattle.flv_demux.specs.declared.deal.Kinds.{Kinds}
 use Rattle.flv_demux.specs.declared.deal.Probe.{Probe}
 use Rattle.flv_demux.specs.declared.deal.Shown.{Shown}
-use Rattle.flv_demux.specs.Probe.{probe_of, no_probe, is_decided, kinds_of, infos_of, info_list, kinds, streams, stream_count}
+use Rattle.flv_demux.specs.Probe.{probe_of, no_probe, is_decided, kinds_of, infos_of, info_list, kinds, streams, script, stream_count}
 use Rattle.flv_demux.specs.State.{DemuxState, HasDealt, IsSure, IsShown, IsReadable}
 use Rattle.flv_demux.proofs.Demuxing.{sure_all}
 use Rattle.flv_demux.specs.Deal.{packets_by}
 use Rattle.flv_demux.proofs.Probing.{probe_stays, probe_of-none}
 use Rattle.interleaver.specs.Interleave.{interleave}
 use Rattle.interleaver.specs.Queues.{Pending, goes}
-use Rattle.fifo_core.specs.declared.types.EndState.{EndState}
-use Rattle.fifo_core.specs.declared.types.EndState.TheVariants as end_state
+use Rattle.options.specs.declared.slave.SlavePlan.{SlavePlan}
+use Rattle.options.specs.declared.words.Plan.{Plan}
+use Rattle.options.specs.Slave.{Slave, view}
+use Rattle.options.specs.Words.{Planned, Placed, plan_view}
+use Rattle.slave.specs.Accounts.{EndsMeetAccounts}
+use Rattle.slave.specs.Headline.{NoFaultNoLoss}
+use Rattle.slave.specs.declared.job.SlaveEnd.{SlaveEnd}
+use Rattle.slave.specs.End.{end_view}
+use Rattle.tee.specs.declared.fault.TeeFault.{TeeFault}
+use Rattle.tee.specs.declared.fault.TeeFault.TheVariants as tee_fault
+use Rattle.tee.specs.None.{IsNoneFault}
+use Rattle.tee.specs.Choice.{all_streams}
+use Rattle.tee.specs.Ends.{EndsAll}
+use Rattle.tee.specs.Fails.{failed_slave, any_want}
+use Rattle.tee.specs.Seat.{Seat, AreSeats, IsInput, aborts, first_without}
 use Rattle.remux.specs.declared.probe.Found.{Found}
 use Rattle.remux.specs.declared.probe.Reached.{Reached}
 use Rattle.remux.specs.declared.probe.Reached.TheVariants as reached
@@ -40,32 +48,38 @@ use Rattle.remux.specs.declared.probe.Unfound.{Unfound}
 use Rattle.remux.specs.declared.probe.Unfound.TheVariants as unfound
 use Rattle.remux.specs.declared.read.ReadEnd.{ReadEnd}
 use Rattle.remux.specs.declared.read.ReadEnd.TheVariants as read_end
-use Rattle.remux.specs.declared.run.Made.{Made}
-use Rattle.remux.specs.declared.run.Unmade.{Unmade}
-use Rattle.remux.specs.declared.run.Unmade.TheVariants as unmade
 use Rattle.remux.specs.declared.run.Outcome.{Outcome}
 use Rattle.remux.specs.declared.status.Status.{Status}
 use Rattle.remux.specs.declared.status.Status.TheVariants as status
-use Rattle.remux.specs.declared.status.Refusal.TheVariants as refusal
+use Rattle.rmx_media.specs.declared.packet.Format.{Format}
+use Rattle.rmx_media.specs.declared.packet.Format.TheVariants.{Flv, Adts, Mpegts, Segment}
+use Rattle.options.specs.declared.fault.WordFault.{WordFault}
+use Rattle.options.specs.declared.words.Source.{Source}
+use Rattle.options.specs.declared.words.Source.TheVariants.{Named}
+use Rattle.slave.specs.Calls.{IsBuilt}
+use Rattle.remux.specs.Asked.{Asked, asked_with, asked_from, asked_of, clamped, is_built, are_built, not_built}
+use Rattle.remux.specs.Came.{CameTo, order_of}
 use Rattle.remux.specs.Carried.{Ready, Carried, Carries}
 use Rattle.remux.specs.Demuxed.{is_refused}
+use Rattle.remux.specs.Ending.{status_by}
 use Rattle.remux.specs.Finding.{First, ByReached, FoundIn, Finding}
 use Rattle.remux.specs.Fit.{Fit, kind_at}
 use Rattle.remux.specs.Flow.{Flow}
-use Rattle.remux.specs.Origin.{Origin}
-use Rattle.remux.specs.Outcome.{max_bytes, max_delta, Taken, Opened, Unopened, audio_in, IsSettled, EndsEarly, Gave, EndsWritten, IsNothing, IsMade, ComesTo, refused_by, unmade_by, status_by, RunsAs, IsReported, with_status}
-use Rattle.remux.specs.Output.{OutputView, KeptBy, Keeps, EndsBy, EndsCaused, EndsSound}
-use Rattle.remux.specs.Reading.{StopsEarly}
+use Rattle.remux.specs.Kept.{AreKept}
+use Rattle.remux.specs.Outcome.{Taken, Opened, Unopened, IsSettled, EndsEarly, IsNothing, IsWritten, ComesTo, PlanComesTo, RunsPlan, RunsAs, IsReported, with_status, refused_by, unmade_by, states_of}
+use Rattle.remux.specs.Reading.{StopsEarly, IsLeast, IsShort}
+use Rattle.remux.specs.Starting.{new_line}
 use Rattle.remux.specs.Took.{TookView, Took, SawEnd}
-use Rattle.remux.specs.Words.{Asked}
-use Rattle.remux.specs.declared.words.WordFault.{WordFault}
 use Rattle.remux.specs.Told.{told}
+use Rattle.remux.specs.States.{states, aborts_of, some_want}
 use Rattle.remux.proofs.Demuxing.{calm_by, told_known}
+use Rattle.remux.proofs.Endings.{states_seen, aborts_seen, any_state, all_kept}
 use Rattle.remux.proofs.Probing.{not_both}
 use Rattle.remux.proofs.Pumping as pumping
 use Rattle.remux.proofs.Reading.{rose_since}
 use Rattle.remux.proofs.Starting.{start_flow}
 use Rattle.remux.proofs.Taking.{took_two}
+use Rattle.remux.proofs.Telling.{tags_told, discards_told}
 
 nil_end : (xs : List ℕ) → xs ++ [] ≡ xs
 nil_end [] = refl
@@ -99,17 +113,17 @@ taken_views name x (Some a) None w h k = absurd h
 taken_views name x (Some a) (Some b) None h k = absurd k
 taken_views name x (Some a) (Some b) (Some c) h k = h ∙ ap (λ (l : List ℕ). Some l) k.1
 
-taken : (name x : List ℕ) (old mid new : InputState) → Opened name old mid → Took x mid new → length x ≤ max_bytes → Taken name x old new
-taken name x old mid new o t le = record { told = taken_views name x old.view mid.view new.view o.told t; long = le }
+taken : (name : List ℕ) (limit : ℕ) (x : List ℕ) (old mid new : InputState) → Opened name old mid → Took x mid new → length x ≤ limit → Taken name limit x old new
+taken name limit x old mid new o t le = record { told = taken_views name x old.view mid.view new.view o.told t; long = le }
 
 -- a run whose input has no streams
-pub early_by : (u : Unfound) (name : List ℕ) (old mid new : InputState) (ended : Bool) (known : Option Kinds) (has : List ℕ → List Tag → Type 0) → Opened name old mid → Finding (Err u) max_bytes mid new ended known has → EndsEarly (refused_by u) name old new
-early_by unfound.NotFlv name old mid new ended known has o f = record { bytes = f.0; taken = taken name f.0 old mid new o f.1.took f.1.long; verdict = f.2; enough = f.3 }
-early_by unfound.BadOffset name old mid new ended known has o f = record { bytes = f.0; taken = taken name f.0 old mid new o f.1.took f.1.long; verdict = f.2; enough = f.3 }
-early_by unfound.NoStreams name old mid new ended known has o f = record { bytes = f.bytes; taken = taken name f.bytes old mid new o f.taking.took f.taking.long; streams_are = f.none; settled = f.settled; calm = f.calm }
-early_by unfound.InputFault name old mid new ended known has o f =
-    (rose_since old.faults mid.faults new.faults o.faults f.rose, inr record { bytes = f.bytes; taken = taken name f.bytes old mid new o f.taking.took f.taking.long; undecided = f.undecided; calm = f.calm })
-early_by unfound.NoMemory name old mid new ended known has o f = tt
+pub early_by : (u : Unfound) (name : List ℕ) (p : Planned) (old mid new : InputState) (ended : Bool) (known : Option Kinds) (has : List ℕ → List Tag → Type 0) → Opened name old mid → Finding (Err u) (clamped p.max_bytes) mid new ended known has → EndsEarly (refused_by u) (asked_with name p) old new
+early_by unfound.NotFlv name p old mid new ended known has o f = record { bytes = f.0; taken = taken name _ f.0 old mid new o f.1.took f.1.long; verdict = f.2; enough = f.3 }
+early_by unfound.BadOffset name p old mid new ended known has o f = record { bytes = f.0; taken = taken name _ f.0 old mid new o f.1.took f.1.long; verdict = f.2; enough = f.3 }
+early_by unfound.NoStreams name p old mid new ended known has o f = record { bytes = f.bytes; taken = taken name _ f.bytes old mid new o f.taking.took f.taking.long; streams_are = f.none; settled = f.settled; calm = f.calm }
+early_by unfound.InputFault name p old mid new ended known has o f =
+    (rose_since old.faults mid.faults new.faults o.faults f.rose, inr record { bytes = f.bytes; taken = taken name _ f.bytes old mid new o f.taking.took f.taking.long; undecided = f.undecided; calm = f.calm })
+early_by unfound.NoMemory name p old mid new ended known has o f = tt
 
 -- a text with streams is an FLV text
 has_tags : (x : List ℕ) → 0 < stream_count (kinds (reading_of x).tags) → (reading_of x).tags ≡ [] → ⊥
@@ -125,10 +139,10 @@ calm_of : (x : List ℕ) → 0 < stream_count (kinds (reading_of x).tags) → is
 calm_of x some = calm_by (reading_of x).verdict (λ e. has_tags x some (no_tags fault.NotFlv x (inl refl) e)) (λ e. has_tags x some (no_tags fault.BadOffset x (inr refl) e))
 
 -- what was found stays, whatever is taken behind it
-pub record Stays (f : Found) (b more : List ℕ) (mid new : InputState) : Type 0 where
+pub record Stays (limit : ℕ) (b more : List ℕ) (new : InputState) : Type 0 where
   pub probe : probe_of (reading_of (b ++ more)).tags ≡ probe_of (reading_of b).tags
-  pub settled : IsSettled (b ++ more) new
-  pub long : length (b ++ more) ≤ max_bytes
+  pub settled : IsSettled limit (b ++ more) new
+  pub long : length (b ++ more) ≤ limit
 
 stays_none : (b more : List ℕ) → more ≡ [] → probe_of (reading_of (b ++ more)).tags ≡ probe_of (reading_of b).tags
 stays_none b more e = ap (λ (x : List ℕ). probe_of (reading_of x).tags) (ap (λ (l : List ℕ). b ++ l) e ∙ nil_end b)
@@ -136,13 +150,13 @@ stays_none b more e = ap (λ (x : List ℕ). probe_of (reading_of x).tags) (ap (
 stays_sure : (b more : List ℕ) → is_decided (probe_of (reading_of b).tags) ≡ true → probe_of (reading_of (b ++ more)).tags ≡ probe_of (reading_of b).tags
 stays_sure b more d = let g = tags_grow b more in ap probe_of g.1 ∙ probe_stays (reading_of b).tags g.0 d
 
-pub stays : (f : Found) (start mid new : InputState) (ended : Bool) (known : Option Kinds) (has : List ℕ → List Tag → Type 0) → (w : FoundIn f max_bytes start mid ended known has) → (more : List ℕ) → length more ≤ f.left → (mid.readable ≡ false → more ≡ []) → (mid.readable ≡ false → new ≡ mid) → Stays f w.bytes more mid new
-stays f start mid new ended known has w more le only still = by w.finds.decided
+pub stays : (limit : ℕ) (f : Found) (start mid new : InputState) (ended : Bool) (known : Option Kinds) (has : List ℕ → List Tag → Type 0) → (w : FoundIn f limit start mid ended known has) → (more : List ℕ) → length more ≤ f.left → (mid.readable ≡ false → more ≡ []) → (mid.readable ≡ false → new ≡ mid) → Stays limit w.bytes more new
+stays limit f start mid new ended known has w more le only still = by w.finds.decided
   where
-    small : length (w.bytes ++ more) ≤ max_bytes
+    small : length (w.bytes ++ more) ≤ limit
     small = omega (arith, w.long, le, length-append w.bytes more)
 
-    at_end : (r : Reached) → ByReached r w.bytes ended f.left mid → ended ≡ true → Stays f w.bytes more mid new
+    at_end : (r : Reached) → ByReached r w.bytes ended f.left mid → ended ≡ true → Stays limit w.bytes more new
     at_end reached.More h e = absurd (not_both ended e h.0)
     at_end reached.End h e = record {
       probe = stays_none w.bytes more (only h.4);
@@ -157,110 +171,125 @@ stays f start mid new ended known has w more le only still = by w.finds.decided
           long = small;
         }
 
-    by : (is_decided (probe_of (reading_of w.bytes).tags) ≡ true) ⊎ (ended ≡ true) → Stays f w.bytes more mid new
+    by : (is_decided (probe_of (reading_of w.bytes).tags) ≡ true) ⊎ (ended ≡ true) → Stays limit w.bytes more new
     by (inl d) = record { probe = stays_sure w.bytes more d; settled = inl (ap is_decided (stays_sure w.bytes more d) ∙ d); long = small }
     by (inr e) = at_end f.reached w.how e
 
--- the output was given these packets of the order of the text
-gave : (asked : Asked) (f : Found) (place : ℕ) (info : StreamInfo) (m : MuxStreams) (old start mid new : InputState) (ended : Bool) (known : Option Kinds) (has : List ℕ → List Tag → Type 0) (first last : ShelfState) (st : EndState) (n delta : ℕ) (more : List ℕ) (given rest : List Packet) →
-    Opened asked.source old start → (w : FoundIn f max_bytes start mid ended known has) → Took more mid new → Stays f w.bytes more mid new → n ≡ stream_count w.streams → delta ≡ max_delta → audio_in (streams (reading_of w.bytes).tags) ≡ Some (place, info) →
-    interleave n delta (packets_by w.streams (reading_of (w.bytes ++ more)).tags) ≡ given ++ rest →
-    EndsBy st record { name = asked.target; streams = m; stream = place; shelf = first } given last →
-    (g : Gave asked old new first last st) × (g.bytes ≡ w.bytes ++ more) × (g.given ≡ given) × (g.rest ≡ rest)
-gave asked f place info m old start mid new ended known has first last st n delta more given rest o w t s ne de a order e =
-    let x = w.bytes ++ more in
-    let same : w.streams ≡ kinds (reading_of x).tags = w.finds.kinds_are ∙ sym (ap kinds_of s.probe) in (
-      record {
-        bytes = x;
-        taken = taken asked.source x old start new o (took_two w.bytes more start mid new w.took t) s.long;
-        settled = s.settled;
-        calm = calm_of x (subst (λ (k : Kinds). 0 < stream_count k) same w.finds.some);
-        place = place;
-        info = info;
-        audio = ap audio_in (ap infos_of s.probe) ∙ a;
-        streams_are = m;
-        given = given;
-        rest = rest;
-        order = subst (λ (k : Kinds). interleave (stream_count k) max_delta (packets_by k (reading_of x).tags) ≡ given ++ rest) same
-            (subst (λ (d : ℕ). interleave (stream_count w.streams) d (packets_by w.streams (reading_of x).tags) ≡ given ++ rest) de
-            (subst (λ (c : ℕ). interleave c delta (packets_by w.streams (reading_of x).tags) ≡ given ++ rest) ne order));
-        end = e;
-      },
-      refl,
-      refl,
-      refl,
-    )
+-- of which it is settled that they are all
+pub settled_now : (limit : ℕ) (f : Found) (start mid : InputState) (ended : Bool) (known : Option Kinds) (has : List ℕ → List Tag → Type 0) → (w : FoundIn f limit start mid ended known has) → IsSettled limit w.bytes mid
+settled_now limit f start mid ended known has w =
+    subst (λ (x : List ℕ). IsSettled limit x mid) (nil_end w.bytes) (stays limit f start mid mid ended known has w [] (omega arith) (λ h. refl) (λ h. refl)).settled
 
-closed_not_failed : (s : EndState) → s ≡ end_state.Closed → s ≡ end_state.Failed → ⊥
-closed_not_failed s c f = cc
+-- what came of a reading, however it ended
+pub record Out (e : ReadEnd) (limit delta : ℕ) (s : Kinds) (b : List ℕ) (left : ℕ) (old mid new : InputState) (n : ℕ) (has : List ℕ → List Tag → Type 0) (K : List Packet → Type 0) (D : ℕ → Bool) : Type 0 where
+  pub more : List ℕ
+  pub long : length more ≤ left
+  pub only : mid.readable ≡ false → more ≡ []
+  pub took : Took more mid new
+  pub given : List Packet
+  pub rest : List Packet
+  pub kept : K given
+  pub order : interleave n delta (packets_by s (reading_of (b ++ more)).tags) ≡ given ++ rest
+  pub alive : (u : ℕ) → 0 < u → u < length given → D u ≡ false
+  pub done : List Tag
+  pub fed : List ℕ
+  pub dealt : has fed done
+  pub whole : (e ≡ read_end.NoMemory → ⊥) → fed ≡ b ++ more
+  pub came : CameTo e limit delta old new (b ++ more) given rest done D
 
-nothing_left : (rest : List Packet) (n : ℕ) (d : Bool) (s : EndState) → (rest ≡ []) ⊎ ((0 < n) × (d ≡ true)) → (d ≡ true → s ≡ end_state.Failed) → s ≡ end_state.Closed → rest ≡ []
-nothing_left rest n d s (inl e) f c = e
-nothing_left rest n d s (inr k) f c = absurd (closed_not_failed s c (f k.1))
+-- all that was taken was dealt with
+all_out : (e : ReadEnd) (limit delta : ℕ) (s : Kinds) (b : List ℕ) (left : ℕ) (old mid new : InputState) (n : ℕ) (has : List ℕ → List Tag → Type 0) (K : List Packet → Type 0) (D : ℕ → Bool) →
+    (r : Carried s b left mid new n delta has K D) → CameTo e limit delta old new (b ++ r.more) r.out.given r.out.rest (reading_of (b ++ r.more)).tags D → Out e limit delta s b left old mid new n has K D
+all_out e limit delta s b left old mid new n has K D r c = record {
+  more = r.more;
+  long = r.long;
+  only = r.only;
+  took = r.took;
+  given = r.out.given;
+  rest = r.out.rest;
+  kept = r.out.kept;
+  order = r.out.order;
+  alive = r.out.alive;
+  done = (reading_of (b ++ r.more)).tags;
+  fed = b ++ r.more;
+  dealt = r.out.dealt;
+  whole = λ x. refl;
+  came = c;
+}
 
--- an output that was given all that it wanted
-all_out : (asked : Asked) (f : Found) (place : ℕ) (info : StreamInfo) (m : MuxStreams) (old start mid new : InputState) (ended : Bool) (known : Option Kinds) (has has2 : List ℕ → List Tag → Type 0) (first last : ShelfState) (st : EndState) (v : Pending) (K : List Packet → Type 0) (D : ℕ → Bool) (upto : ℕ) →
-    Opened asked.source old start → start.faults ≤ mid.faults → (w : FoundIn f max_bytes start mid ended known has) → (mid.readable ≡ false → new ≡ mid) → v.streams ≡ stream_count w.streams → v.delta ≡ max_delta → audio_in (streams (reading_of w.bytes).tags) ≡ Some (place, info) →
-    ((given : List Packet) → K given → EndsBy st record { name = asked.target; streams = m; stream = place; shelf = first } given last × (upto ≡ length given)) → ((u : ℕ) → D u ≡ true → st ≡ end_state.Failed) →
-    (r : Carried w.streams w.bytes f.left mid new v.streams v.delta has2 K D) → (g : Gave asked old new first last st) × (upto ≡ length g.given) × (g.bytes ≡ w.bytes ++ r.more) × (st ≡ end_state.Closed → g.rest ≡ [])
-all_out asked f place info m old start mid new ended known has has2 first last st v K D upto o le w still ne de a kept dies r =
-    let k = kept r.out.given r.out.kept in
-    let s = stays f start mid new ended known has w r.more r.long r.only still in
-    let g = gave asked f place info m old start mid new ended known has first last st v.streams v.delta r.more r.out.given r.out.rest o w r.took s ne de a r.out.order k.0 in
-    (g.0, k.1 ∙ sym (ap length g.2), g.1, λ c. g.3 ∙ nothing_left r.out.rest (length r.out.given) (D (length r.out.given)) st r.out.last (dies (length r.out.given)) c)
+-- the reading stopped early
+stopped_out : (limit : ℕ) (s : Kinds) (b : List ℕ) (left : ℕ) (old mid new : InputState) (v : Pending) (has : List ℕ → List Tag → Type 0) (K : List Packet → Type 0) (D : ℕ → Bool) →
+    (t : StopsEarly s b left mid new has v K D) → s ≡ kinds (reading_of (b ++ t.more)).tags → v.streams ≡ stream_count s → Out read_end.Stop limit v.delta s b left old mid new v.streams has K D
+stopped_out limit s b left old mid new v has K D t se ne =
+    let x = b ++ t.more in
+    let u = t.stopped in
+    let done = u.before ++ u.tag ∷ [] in
+    let order = pumping.order_of s v.streams v.delta x done u.given u.rest u.begin u.enough in
+    let len : length done ≡ length u.before + 1 = length-append u.before (u.tag ∷ []) in
+    let least : IsLeast s (stream_count s) v.delta (reading_of x).tags (length done) (length u.given) =
+    subst (λ (m : ℕ). IsLeast s (stream_count s) v.delta (reading_of x).tags m (length u.given)) (sym len)
+    (subst (λ (m : ℕ). IsLeast s m v.delta (reading_of x).tags (length u.before + 1) (length u.given)) ne t.least) in
+    record {
+      more = t.more;
+      long = t.long;
+      only = t.only;
+      took = t.took;
+      given = u.given;
+      rest = order.0;
+      kept = u.kept;
+      order = order.1;
+      alive = u.alive;
+      done = done;
+      fed = x;
+      dealt = u.dealt;
+      whole = λ z. refl;
+      came = record {
+        some = omega (arith, u.less);
+        dies = u.dies;
+        begin = u.begin;
+        least = subst (λ (k : Kinds). IsLeast k (stream_count k) v.delta (reading_of x).tags (length done) (length u.given)) se least;
+        unspent = t.unspent;
+        short = λ d. subst (λ (m : ℕ). IsShort x m) (sym len) (t.short d);
+      };
+    }
 
--- an output that wanted no more
-stopped_out : (asked : Asked) (f : Found) (place : ℕ) (info : StreamInfo) (m : MuxStreams) (old start mid new : InputState) (ended : Bool) (known : Option Kinds) (has has2 : List ℕ → List Tag → Type 0) (first last : ShelfState) (st : EndState) (v : Pending) (K : List Packet → Type 0) (D : ℕ → Bool) (upto : ℕ) →
-    Opened asked.source old start → start.faults ≤ mid.faults → (w : FoundIn f max_bytes start mid ended known has) → (mid.readable ≡ false → new ≡ mid) → v.streams ≡ stream_count w.streams → v.delta ≡ max_delta → audio_in (streams (reading_of w.bytes).tags) ≡ Some (place, info) →
-    ((given : List Packet) → K given → EndsBy st record { name = asked.target; streams = m; stream = place; shelf = first } given last × (upto ≡ length given)) → ((u : ℕ) → D u ≡ true → st ≡ end_state.Failed) →
-    StopsEarly w.streams w.bytes f.left mid new has2 v K D → (g : Gave asked old new first last st) × (upto ≡ length g.given)
-stopped_out asked f place info m old start mid new ended known has has2 first last st v K D upto o le w still ne de a kept dies e =
-    let t = e.stopped in
-    let k = kept t.given t.kept in
-    let s = stays f start mid new ended known has w e.more e.long e.only still in
-    let order = pumping.order_of w.streams v.streams v.delta (w.bytes ++ e.more) (t.before ++ t.tag ∷ []) t.given t.rest t.begin t.enough in
-    let g = gave asked f place info m old start mid new ended known has first last st v.streams v.delta e.more t.given order.0 o w e.took s ne de a order.1 k.0 in
-    (g.0, k.1 ∙ sym (ap length g.2))
-
-pub written : (st : EndState) (e : ReadEnd) → (asked : Asked) (f : Found) (place : ℕ) (info : StreamInfo) (m : MuxStreams) (old start mid new : InputState) (ended : Bool) (known : Option Kinds) (has has2 : List ℕ → List Tag → Type 0) (first last : ShelfState) (v : Pending) (K : List Packet → Type 0) (D : ℕ → Bool) (upto : ℕ) →
-    Opened asked.source old start → start.faults ≤ mid.faults → (w : FoundIn f max_bytes start mid ended known has) → (mid.readable ≡ false → new ≡ mid) → v.streams ≡ stream_count w.streams → v.delta ≡ max_delta → audio_in (streams (reading_of w.bytes).tags) ≡ Some (place, info) →
-    ((given : List Packet) → K given → EndsBy st record { name = asked.target; streams = m; stream = place; shelf = first } given last × (upto ≡ length given)) → ((u : ℕ) → D u ≡ true → st ≡ end_state.Failed) →
-    Carries e w.streams w.bytes f.left mid new v has2 K D → EndsWritten (status_by st e) asked old new first last st upto
-written end_state.Closed read_end.Whole asked f place info m old start mid new ended known has has2 first last v K D upto o le w still ne de a kept dies h =
-    let g = all_out asked f place info m old start mid new ended known has has2 first last end_state.Closed v K D upto o le w still ne de a kept dies h.0 in
-    (g.0, refl, g.3 refl, g.1, h.1, subst (λ (x : List ℕ). (reading_of x).verdict ≡ None) (sym g.2) h.2, omega (arith, ap length g.2, length-append w.bytes h.0.more, w.long, h.3))
-written end_state.Closed read_end.Cut asked f place info m old start mid new ended known has has2 first last v K D upto o le w still ne de a kept dies h =
-    let g = all_out asked f place info m old start mid new ended known has has2 first last end_state.Closed v K D upto o le w still ne de a kept dies h.0 in
-    (g.0, refl, g.3 refl, g.1, h.1, subst (λ (x : List ℕ). (reading_of x).verdict ≡ Some fault.CutTag) (sym g.2) h.2, omega (arith, ap length g.2, length-append w.bytes h.0.more, w.long, h.3))
-written end_state.Closed read_end.Limit asked f place info m old start mid new ended known has has2 first last v K D upto o le w still ne de a kept dies h =
-    let g = all_out asked f place info m old start mid new ended known has has2 first last end_state.Closed v K D upto o le w still ne de a kept dies h.0 in
-    (g.0, refl, g.3 refl, g.1, omega (arith, ap length g.2, length-append w.bytes h.0.more, w.long, h.1))
-written end_state.Closed read_end.InputFault asked f place info m old start mid new ended known has has2 first last v K D upto o le w still ne de a kept dies h =
-    let g = all_out asked f place info m old start mid new ended known has has2 first last end_state.Closed v K D upto o le w still ne de a kept dies h.0 in
-    (g.0, refl, g.3 refl, g.1, rose_since old.faults mid.faults new.faults (omega (arith, o.faults, le)) h.1)
-written end_state.Closed read_end.Stop asked f place info m old start mid new ended known has has2 first last v K D upto o le w still ne de a kept dies h =
-    absurd (closed_not_failed end_state.Closed refl (dies (length h.stopped.given) h.stopped.dies))
-written end_state.Closed read_end.NoMemory asked f place info m old start mid new ended known has has2 first last v K D upto o le w still ne de a kept dies h = tt
-written end_state.Failed read_end.Whole asked f place info m old start mid new ended known has has2 first last v K D upto o le w still ne de a kept dies h =
-    let g = all_out asked f place info m old start mid new ended known has has2 first last end_state.Failed v K D upto o le w still ne de a kept dies h.0 in (refl, g.0, refl, g.1)
-written end_state.Failed read_end.Cut asked f place info m old start mid new ended known has has2 first last v K D upto o le w still ne de a kept dies h =
-    let g = all_out asked f place info m old start mid new ended known has has2 first last end_state.Failed v K D upto o le w still ne de a kept dies h.0 in (refl, g.0, refl, g.1)
-written end_state.Failed read_end.Limit asked f place info m old start mid new ended known has has2 first last v K D upto o le w still ne de a kept dies h =
-    let g = all_out asked f place info m old start mid new ended known has has2 first last end_state.Failed v K D upto o le w still ne de a kept dies h.0 in (refl, g.0, refl, g.1)
-written end_state.Failed read_end.InputFault asked f place info m old start mid new ended known has has2 first last v K D upto o le w still ne de a kept dies h =
-    let g = all_out asked f place info m old start mid new ended known has has2 first last end_state.Failed v K D upto o le w still ne de a kept dies h.0 in (refl, g.0, refl, g.1)
-written end_state.Failed read_end.Stop asked f place info m old start mid new ended known has has2 first last v K D upto o le w still ne de a kept dies h =
-    let g = stopped_out asked f place info m old start mid new ended known has has2 first last end_state.Failed v K D upto o le w still ne de a kept dies h in (refl, g.0, refl, g.1)
-written end_state.Failed read_end.NoMemory asked f place info m old start mid new ended known has has2 first last v K D upto o le w still ne de a kept dies h = tt
-written end_state.NoMemory e asked f place info m old start mid new ended known has has2 first last v K D upto o le w still ne de a kept dies h = tt
+pub outs : (e : ReadEnd) (limit : ℕ) (s : Kinds) (b : List ℕ) (left : ℕ) (old mid new : InputState) (v : Pending) (has : List ℕ → List Tag → Type 0) (K : List Packet → Type 0) (D : ℕ → Bool) →
+    old.faults ≤ mid.faults → length b + left ≡ limit → ((more : List ℕ) → length more ≤ left → (mid.readable ≡ false → more ≡ []) → s ≡ kinds (reading_of (b ++ more)).tags) → v.streams ≡ stream_count s →
+    Carries e s b left mid new v has K D → Out e limit v.delta s b left old mid new v.streams has K D
+outs read_end.Whole limit s b left old mid new v has K D le long se ne h =
+    all_out read_end.Whole limit v.delta s b left old mid new v.streams has K D h.0 (record { all_tags = refl; all_packets = h.0.out.last }, h.1, h.2, omega (arith, long, h.3, length-append b h.0.more))
+outs read_end.Cut limit s b left old mid new v has K D le long se ne h =
+    all_out read_end.Cut limit v.delta s b left old mid new v.streams has K D h.0 (record { all_tags = refl; all_packets = h.0.out.last }, h.1, h.2, omega (arith, long, h.3, length-append b h.0.more))
+outs read_end.Limit limit s b left old mid new v has K D le long se ne h =
+    all_out read_end.Limit limit v.delta s b left old mid new v.streams has K D h.0 (record { all_tags = refl; all_packets = h.0.out.last }, omega (arith, long, h.1, length-append b h.0.more))
+outs read_end.InputFault limit s b left old mid new v has K D le long se ne h =
+    all_out read_end.InputFault limit v.delta s b left old mid new v.streams has K D h.0 (record { all_tags = refl; all_packets = h.0.out.last }, rose_since old.faults mid.faults new.faults le h.1)
+outs read_end.Stop limit s b left old mid new v has K D le long se ne h =
+    stopped_out limit s b left old mid new v has K D h (se h.more h.long h.only) ne
+outs read_end.NoMemory limit s b left old mid new v has K D le long se ne h = record {
+  more = h.more;
+  long = h.long;
+  only = h.only;
+  took = h.took;
+  given = h.cut.given;
+  rest = h.cut.rest;
+  kept = h.cut.kept;
+  order = h.cut.order;
+  alive = λ u p lt. h.cut.alive u p (omega (arith, lt));
+  done = h.cut.tags;
+  fed = h.cut.fed;
+  dealt = h.cut.dealt;
+  whole = λ x. absurd (x refl);
+  came = h.cut.begin;
+}
 
 -- the streams that the demuxer tells
 first_dealt : (s : Kinds) (b : List ℕ) (first : Option Packet) (has : List Tag → Type 0) → First s b first has → (ts : List Tag) × has ts
 first_dealt s b None has f = ((reading_of b).tags, f.dealt)
 first_dealt s b (Some p) has f = (f.before ++ f.tag ∷ [], f.dealt)
 
-pub infos_found : (f : Found) (start mid : InputState) (d : DemuxState) → (w : FoundIn f max_bytes start mid d.core.reader.ended (told d) (λ (b : List ℕ) (done : List Tag). HasDealt b done d)) → d.core.infos ≡ streams (reading_of w.bytes).tags
-infos_found f start mid d w =
+pub infos_found : (limit : ℕ) (f : Found) (start mid : InputState) (d : DemuxState) → (w : FoundIn f limit start mid d.core.reader.ended (told d) (λ (b : List ℕ) (done : List Tag). HasDealt b done d)) → d.core.infos ≡ streams (reading_of w.bytes).tags
+infos_found limit f start mid d w =
     let t = first_dealt w.streams w.bytes f.first (λ (done : List Tag). HasDealt w.bytes done d) w.first in
     let k = t.1.inner.known w.streams (told_known d w.streams w.finds.known_is).1 in
     k.infos ∙ ap infos_of (sure_all d.core.probe w.bytes d.core.reader.ended k.sure)
@@ -274,77 +303,112 @@ count_infos None None = refl
 pub count_streams : (tags : List Tag) → length (streams tags) ≡ stream_count (kinds tags)
 count_streams tags = count_infos (probe_of tags).video (probe_of tags).audio
 
-pub some_infos : (f : Found) (start mid : InputState) (d : DemuxState) (infos : List StreamInfo) → (w : FoundIn f max_bytes start mid d.core.reader.ended (told d) (λ (b : List ℕ) (done : List Tag). HasDealt b done d)) → infos ≡ d.core.infos → 0 < length infos
-some_infos f start mid d infos w e =
-    omega (arith, ap length (e ∙ infos_found f start mid d w), count_streams (reading_of w.bytes).tags, subst (λ (k : Kinds). 0 < stream_count k) w.finds.kinds_are w.finds.some)
+pub some_infos : (limit : ℕ) (f : Found) (start mid : InputState) (d : DemuxState) (infos : List StreamInfo) → (w : FoundIn f limit start mid d.core.reader.ended (told d) (λ (b : List ℕ) (done : List Tag). HasDealt b done d)) → infos ≡ d.core.infos → 0 < length infos
+some_infos limit f start mid d infos w e =
+    omega (arith, ap length (e ∙ infos_found limit f start mid d w), count_streams (reading_of w.bytes).tags, subst (λ (k : Kinds). 0 < stream_count k) w.finds.kinds_are w.finds.some)
 
--- the audio stream among them
-audio_at : (v a : Option Config) (place : ℕ) (info : StreamInfo) → audio_in (info_list Video v ++ info_list Audio a) ≡ Some (place, info) → (info.kind ≡ Audio) × (kind_at record { video = is_some v; audio = is_some a } place ≡ Some Audio)
-audio_at (Some x) (Some y) place info e = let f : (1, record { kind = Audio; config = y }) ≡ (place, info) = inside _ _ e in (ap (λ (z : ℕ × StreamInfo). z.1.kind) (sym f), ap (λ (z : ℕ × StreamInfo). kind_at record { video = true; audio = true } z.0) (sym f))
-  where
-    inside : (a b : ℕ × StreamInfo) → Some a ≡ Some b → a ≡ b
-    inside a b e = cc
-audio_at (Some x) None place info e = absurd (no _ e)
-  where
-    no : (b : ℕ × StreamInfo) → None ≡ Some b → ⊥
-    no b e = cc
-audio_at None (Some y) place info e = let f : (0, record { kind = Audio; config = y }) ≡ (place, info) = inside _ _ e in (ap (λ (z : ℕ × StreamInfo). z.1.kind) (sym f), ap (λ (z : ℕ × StreamInfo). kind_at record { video = false; audio = true } z.0) (sym f))
-  where
-    inside : (a b : ℕ × StreamInfo) → Some a ≡ Some b → a ≡ b
-    inside a b e = cc
-audio_at None None place info e = absurd (no _ e)
-  where
-    no : (b : ℕ × StreamInfo) → None ≡ Some b → ⊥
-    no b e = cc
+-- a text with streams has some
+some_streams : (x : List ℕ) → 0 < stream_count (kinds (reading_of x).tags) → streams (reading_of x).tags ≡ [] → ⊥
+some_streams x some e = omega (arith, some, count_streams (reading_of x).tags, ap length e)
 
-low_enough : (a : ℤ) → negsuc 2147483647 ≤ℤ a → negsuc 8589934591 ≤ℤ a
-low_enough a h = omega (arith, ints, h)
+-- a reading that stopped early found an output dead
+stopped_dies : (e : ReadEnd) → e ≡ read_end.Stop → (limit delta : ℕ) (old new : InputState) (bytes : List ℕ) (given rest : List Packet) (done : List Tag) (dead : ℕ → Bool) → CameTo e limit delta old new bytes given rest done dead → dead (length given) ≡ true
+stopped_dies e s limit delta old new bytes given rest done dead c = (subst (λ (z : ReadEnd). CameTo z limit delta old new bytes given rest done dead) s c).dies
 
-high_enough : (a : ℤ) → a ≤ℤ pos 2147483647 → a ≤ℤ pos 8589934592
-high_enough a h = omega (arith, ints, h)
-
--- its packets fit an ADTS file of it
-fits_adts : (tags : List Tag) (m : MuxStreams) (place : ℕ) (info : StreamInfo) → audio_in (streams tags) ≡ Some (place, info) → m.streams.items ≡ record { stream = place; info = info } ∷ [] → (p : Packet) → Fit (kinds tags) p → p.stream ≡ place → FitsLowered Adts m p
-fits_adts tags m place info a e p x of =
-    let q = probe_of tags in
-    let w = audio_at q.video q.audio place info a in
-    let audio : kind_of p.config ≡ Audio = inside _ _ (sym x.stream ∙ ap (λ (n : ℕ). kind_at (kinds tags) n) of ∙ w.1) in
-    let here : (place == p.stream) ≡ true = grind (arith, of) in
+-- the outputs were given these packets of the order of the text
+pub wrote : {S : Type 0} (state : S → ShelfState) (p : Planned) (name : List ℕ) (f : Found) (old start mid new : InputState) (ended : Bool) (known : Option Kinds) (has : List ℕ → List Tag → Type 0) (d : DemuxState) (e : ReadEnd) (v : Pending) (shelves : List S) (seats : List Seat) (K : List Packet → Type 0) (D : ℕ → Bool) (o : Outcome S) →
+    Opened name old start → start.faults ≤ mid.faults → (w : FoundIn f (clamped p.max_bytes) start mid ended known has) → (mid.readable ≡ false → new ≡ mid) → v.streams ≡ stream_count w.streams → v.delta ≡ p.delta_us →
+    AreSeats state (streams (reading_of w.bytes).tags) (script (reading_of w.bytes).tags) p.slaves shelves seats o.spare.items → first_without (streams (reading_of w.bytes).tags) p.slaves ≡ None →
+    ((given : List Packet) → K given → (o.upto ≡ length given) × EndsAll seats given D (map (end_view state) o.ends.items) × AreKept seats given (map (end_view state) o.ends.items)) →
+    o.status ≡ status_by e (failed_slave (aborts seats) (states_of (map (end_view state) o.ends.items))) (any_want (states_of (map (end_view state) o.ends.items))) →
+    ((u : ℕ) → D u ≡ true → any_want (states_of (map (end_view state) o.ends.items)) ≡ false → is_some (failed_slave (aborts seats) (states_of (map (end_view state) o.ends.items))) ≡ true) →
+    o.tags ≡ d.shown.tags → o.discards ≡ d.shown.discards →
+    Carries e w.streams w.bytes f.left mid new v (λ (b : List ℕ) (done : List Tag). HasDealt b done d) K D → IsWritten state (asked_with name p) old new shelves o
+wrote state p name f old start mid new ended known has d e v shelves seats K D o op le w still ne de seated first kept status_is dies tags_are discards_are h =
+    let most_bytes = clamped p.max_bytes in
+    let se : (more : List ℕ) → length more ≤ f.left → (mid.readable ≡ false → more ≡ []) → w.streams ≡ kinds (reading_of (w.bytes ++ more)).tags =
+    λ more l only. w.finds.kinds_are ∙ sym (ap kinds_of (stays most_bytes f start mid new ended known has w more l only still).probe) in
+    let r = outs e most_bytes w.streams w.bytes f.left old mid new v (λ (b : List ℕ) (done : List Tag). HasDealt b done d) K D (omega (arith, op.faults, le)) w.long se ne h in
+    let x = w.bytes ++ r.more in
+    let s = stays most_bytes f start mid new ended known has w r.more r.long r.only still in
+    let same : w.streams ≡ kinds (reading_of x).tags = se r.more r.long r.only in
+    let infos : streams (reading_of w.bytes).tags ≡ streams (reading_of x).tags = sym (ap infos_of s.probe) in
+    let scripts : script (reading_of w.bytes).tags ≡ script (reading_of x).tags = sym (ap (λ (q : Probe). q.script) s.probe) in
+    let k = kept r.given r.kept in
     record {
-      all = record {
-        stream = ap (λ (l : List MuxStream). kind_in l p.stream) e ∙ ap (λ (b : Bool). if b then Some info.kind else None) here ∙ ap (λ (k : Kind). Some k) (w.0 ∙ sym audio);
-        config = x.config;
-        payload = x.payload;
-        size = omega (arith, x.size);
-        early = x.early;
-        late = x.late;
-        suits = audio;
-      };
-      low = low_enough p.dts x.low;
-      high = high_enough p.dts x.high;
+      bytes = x;
+      taken = taken name most_bytes x old start new op (took_two w.bytes r.more start mid new w.took r.took) s.long;
+      settled = s.settled;
+      calm = calm_of x (subst (λ (k : Kinds). 0 < stream_count k) same w.finds.some);
+      some = some_streams x (subst (λ (k : Kinds). 0 < stream_count k) same w.finds.some);
+      each_takes = subst (λ (l : List StreamInfo). first_without l p.slaves ≡ None) infos first;
+      seats = seats;
+      are_seats = subst (λ (l : List StreamInfo). AreSeats state l (script (reading_of x).tags) p.slaves shelves seats o.spare.items) infos
+          (subst (λ (c : Option (List ℕ)). AreSeats state (streams (reading_of w.bytes).tags) c p.slaves shelves seats o.spare.items) scripts seated);
+      given = r.given;
+      rest = r.rest;
+      order = subst (λ (z : ℕ). order_of z (reading_of x).tags ≡ r.given ++ r.rest) de
+          (subst (λ (k : Kinds). interleave (stream_count k) v.delta (packets_by k (reading_of x).tags) ≡ r.given ++ r.rest) same
+          (subst (λ (c : ℕ). interleave c v.delta (packets_by w.streams (reading_of x).tags) ≡ r.given ++ r.rest) ne r.order));
+      upto = k.0;
+      dead = D;
+      alive = r.alive;
+      ends = k.1;
+      kept = k.2;
+      reading = e;
+      done = r.done;
+      came = subst (λ (z : ℕ). CameTo e most_bytes z old new x r.given r.rest r.done D) de r.came;
+      tags = tags_are ∙ tags_told r.fed r.done d r.dealt;
+      discards = λ n. discards_are ∙ discards_told r.fed r.done d r.dealt x (r.whole n);
+      status_is = status_is;
+      stops = λ es nw. dies (length r.given) (stopped_dies e es most_bytes v.delta old new x r.given r.rest r.done D r.came) nw;
     }
-  where
-    inside : (a b : Kind) → Some a ≡ Some b → a ≡ b
-    inside a b e = cc
 
--- an output of it can be given all packets
-pub ready_by : (f : Found) (start mid : InputState) (ended : Bool) (known : Option Kinds) (has : List ℕ → List Tag → Type 0) (made : Made) (K : List Packet → Type 0) (T : Packet → Type 0) →
-    (w : FoundIn f max_bytes start mid ended known has) → IsMade (streams (reading_of w.bytes).tags) made → K [] → ((p : Packet) → (p.stream ≡ made.stream → FitsLowered Adts made.streams p) → T p) →
-    Ready w.streams w.bytes f.first f.reached f.left mid ended known has made.line K T × (length w.bytes + f.left < 2 ^ 61)
-ready_by f start mid ended known has made K T w m kept takes = (
+-- the stream of a number is of the kind that it has in an FLV text
+kinds_at : (v a : Option Config) (n : ℕ) → kind_in (all_streams (info_list Video v ++ info_list Audio a)) n ≡ kind_at record { video = is_some v; audio = is_some a } n
+kinds_at (Some x) (Some y) n = refl
+kinds_at (Some x) None n = refl
+kinds_at None (Some y) n = refl
+kinds_at None None n = refl
+
+-- the packets of a text fit an FLV file of all its streams
+pub input_fits : (tags : List Tag) (p : Packet) → Fit (kinds tags) p → IsInput (streams tags) p
+input_fits tags p x = record {
+  streams = record { streams = record { items = all_streams (streams tags); spare = 0 }; script = None };
+  all = refl;
+  fits = record {
+    all = record {
+      stream = kinds_at (probe_of tags).video (probe_of tags).audio p.stream ∙ x.stream;
+      config = x.config;
+      payload = x.payload;
+      size = omega (arith, x.size);
+      early = x.early;
+      late = x.late;
+      suits = (x.native, x.size);
+    };
+    low = x.low;
+    high = x.high;
+  };
+}
+
+-- outputs of the streams can be given all packets
+pub ready_by : (limit delta : ℕ) (f : Found) (start mid : InputState) (ended : Bool) (known : Option Kinds) (has : List ℕ → List Tag → Type 0) (v : Pending) (infos : List StreamInfo) (K : List Packet → Type 0) →
+    (w : FoundIn f limit start mid ended known has) → limit ≤ 2 ^ 40 → infos ≡ streams (reading_of w.bytes).tags → v ≡ new_line (length (streams (reading_of w.bytes).tags)) delta → K [] →
+    Ready w.streams w.bytes f.first f.reached f.left mid ended known has v K (IsInput infos) × (length w.bytes + f.left < 2 ^ 61)
+ready_by limit delta f start mid ended known has v infos K w small infos_are line kept = (
   record {
     finds = w.finds;
     first_is = w.first;
     late = w.late;
     how = w.how;
-    count = ap (λ (v : Pending). v.streams) m.line ∙ count_streams (reading_of w.bytes).tags ∙ ap stream_count (sym w.finds.kinds_are);
-    flow = subst (λ (v : Pending). Flow [] [] v) (sym m.line) (start_flow (length (streams (reading_of w.bytes).tags)) max_delta);
-    stuck = ap goes m.line;
-    none = ap (λ (v : Pending). v.pending) m.line;
+    count = ap (λ (q : Pending). q.streams) line ∙ count_streams (reading_of w.bytes).tags ∙ ap stream_count (sym w.finds.kinds_are);
+    flow = subst (λ (q : Pending). Flow [] [] q) (sym line) (start_flow (length (streams (reading_of w.bytes).tags)) delta);
+    stuck = ap goes line;
+    none = ap (λ (q : Pending). q.pending) line;
     kept = kept;
-    accepts = λ p x. takes p (λ of. fits_adts (reading_of w.bytes).tags made.streams made.stream m.info m.audio m.items p (subst (λ (k : Kinds). Fit k p) w.finds.kinds_are x) of);
+    accepts = λ p x. subst (λ (l : List StreamInfo). IsInput l p) (sym infos_are) (input_fits (reading_of w.bytes).tags p (subst (λ (k : Kinds). Fit k p) w.finds.kinds_are x));
   },
-  omega (arith, w.long),
+  omega (arith, w.long, small),
 )
 
 -- whatever came, some packets were given
@@ -356,73 +420,40 @@ kept_of read_end.InputFault s b left old new v has K D h = (h.0.out.given, h.0.o
 kept_of read_end.Stop s b left old new v has K D h = (h.stopped.given, h.stopped.kept)
 kept_of read_end.NoMemory s b left old new v has K D h = (h.cut.given, h.cut.kept)
 
-one_origin : (a b : Origin) → a ∷ [] ≡ b ∷ [] → a ≡ b
-one_origin a b e = cc
-
--- what the end of an output says of what it was given
-pub end_says : (st : EndState) (origin : Origin) (given : List Packet) (v : OutputView) (last : ShelfState) (upto : ℕ) → ((o : Origin) (given : List Packet) → KeptBy o given v → EndsBy st o given last) → upto ≡ v.given → Keeps v (origin ∷ []) given → EndsBy st origin given last × (upto ≡ length given)
-end_says st origin given v last upto ends u k =
-    let same : k.0 ≡ origin = sym (one_origin origin k.0 k.1) in
-    (subst (λ (o : Origin). EndsBy st o given last) same (ends k.0 given k.2), u ∙ k.2.count)
-
--- and that it didn't fail on a shelf that is sound
-pub end_calm : (st : EndState) (origin : Origin) (given : List Packet) (v : OutputView) (last : ShelfState) → ((o : Origin) (given : List Packet) → KeptBy o given v → EndsSound st o.shelf last) → Keeps v (origin ∷ []) given → EndsSound st origin.shelf last
-end_calm st origin given v last ends k =
-    let same : k.0 ≡ origin = sym (one_origin origin k.0 k.1) in
-    subst (λ (o : Origin). EndsSound st o.shelf last) same (ends k.0 given k.2)
-
-caused_by : (st : EndState) (origin : Origin) (given : List Packet) (last : ShelfState) → EndsBy st origin given last → EndsCaused st origin.shelf last
-caused_by end_state.Closed origin given last e = tt
-caused_by end_state.Failed origin given last e = e
-caused_by end_state.NoMemory origin given last e = e
-
--- and what it did not end well of
-pub end_caused : (st : EndState) (origin : Origin) (given : List Packet) (v : OutputView) (last : ShelfState) → ((o : Origin) (given : List Packet) → KeptBy o given v → EndsBy st o given last) → Keeps v (origin ∷ []) given → EndsCaused st origin.shelf last
-end_caused st origin given v last ends k =
-    let same : k.0 ≡ origin = sym (one_origin origin k.0 k.1) in
-    caused_by st origin given last (subst (λ (o : Origin). EndsBy st o given last) same (ends k.0 given k.2))
-
--- of which it is settled that they are all
-pub settled_now : (f : Found) (start mid : InputState) (ended : Bool) (known : Option Kinds) (has : List ℕ → List Tag → Type 0) → (w : FoundIn f max_bytes start mid ended known has) → IsSettled w.bytes mid
-settled_now f start mid ended known has w =
-    subst (λ (x : List ℕ). IsSettled x mid) (nil_end w.bytes) (stays f start mid mid ended known has w [] (omega arith) (λ h. refl) (λ h. refl)).settled
-
--- no output takes any of the streams
-none_selected : (f : Found) (name : List ℕ) (old start mid : InputState) (d : DemuxState) (infos : List StreamInfo) → Opened name old start → (w : FoundIn f max_bytes start mid d.core.reader.ended (told d) (λ (b : List ℕ) (done : List Tag). HasDealt b done d)) → infos ≡ d.core.infos → audio_in infos ≡ None →
-    EndsEarly (status.InputRefused (refusal.NoneSelected 0)) name old mid
-none_selected f name old start mid d infos o w e a = (
-  refl,
-  infos,
-  (
-    (λ n. absurd (few (some_infos f start mid d infos w e) n)),
-    a,
-    record {
-      bytes = w.bytes;
-      taken = taken name w.bytes old start mid o w.took (omega (arith, w.long));
-      streams_are = sym (e ∙ infos_found f start mid d w);
-      settled = settled_now f start mid d.core.reader.ended (told d) (λ (b : List ℕ) (done : List Tag). HasDealt b done d) w;
-      calm = w.finds.calm;
-    },
-  ),
-)
-  where
-    few : 0 < length infos → infos ≡ [] → ⊥
-    few h n = omega (arith, h, ap length n)
-
--- no output is made of them
-pub unmade_early : (u : Unmade) (r : Result Made Unmade) (f : Found) (name : List ℕ) (old start mid : InputState) (d : DemuxState) (infos : List StreamInfo) → r ≡ Err u → (r ≡ Err unmade.NoneSelected → audio_in infos ≡ None) →
-    Opened name old start → (w : FoundIn f max_bytes start mid d.core.reader.ended (told d) (λ (b : List ℕ) (done : List Tag). HasDealt b done d)) → infos ≡ d.core.infos → EndsEarly (unmade_by u) name old mid
-unmade_early unmade.NoneSelected r f name old start mid d infos e none o w known = none_selected f name old start mid d infos o w known (none e)
-unmade_early unmade.NoMemory r f name old start mid d infos e none o w known = tt
+-- The same of outputs that ended, by what the calls of the run said.
+pub wrote_ends : {S : Type 0} (state : S → ShelfState) (q : Plan) (name : List ℕ) (f : Found) (old start mid new : InputState) (ended : Bool) (known : Option Kinds) (has : List ℕ → List Tag → Type 0) (d : DemuxState) (e : ReadEnd) (v : Pending) (shelves : List S) (seats : List Seat) (K : List Packet → Type 0) (D : ℕ → Bool) (rest spare : List S) (ends : List (SlaveEnd S)) (slaves : List SlavePlan) (ends2 ends3 : List (SlaveEnd S)) (failed : Option ℕ) (wanted : Bool) (o : Outcome S) →
+    Opened name old start → start.faults ≤ mid.faults → (w : FoundIn f (clamped q.max_bytes) start mid ended known has) → (mid.readable ≡ false → new ≡ mid) → v.streams ≡ stream_count w.streams → v.delta ≡ q.delta_us →
+    rest ≡ spare → aborts seats ≡ map (λ (s : Slave). s.abort) (plan_view q).slaves → NoFaultNoLoss → EndsMeetAccounts →
+    ((given : List Packet) → K given → (o.upto ≡ length given) × EndsAll seats given D (map (end_view state) ends) × ((u : ℕ) → D u ≡ true → any_want (states ends) ≡ false → is_some (failed_slave (aborts seats) (states ends)) ≡ true)) →
+    slaves ≡ q.slaves.items → ends2 ≡ ends → ends3 ≡ ends → failed ≡ failed_slave (aborts_of slaves) (states ends2) → wanted ≡ some_want ends3 →
+    o.status ≡ status_by e failed wanted → o.ends.items ≡ ends → o.spare.items ≡ spare → o.tags ≡ d.shown.tags → o.discards ≡ d.shown.discards →
+    AreSeats state (streams (reading_of w.bytes).tags) (script (reading_of w.bytes).tags) (plan_view q).slaves shelves seats rest → first_without (streams (reading_of w.bytes).tags) (plan_view q).slaves ≡ None →
+    Carries e w.streams w.bytes f.left mid new v (λ (b : List ℕ) (done : List Tag). HasDealt b done d) K D → IsWritten state (asked_with name (plan_view q)) old new shelves o
+wrote_ends state q name f old start mid new ended known has d e v shelves seats K D rest spare ends slaves ends2 ends3 failed wanted o op le w still ne de rest_is aborts_are loss meets kept slaves_are ends2_are ends3_are failed_is wanted_is status_is ends_are spare_is tags_are discards_are seated first h =
+    let seen : states ends ≡ states_of (map (end_view state) o.ends.items) = sym (states_seen state ends) ∙ ap (λ (l : List (SlaveEnd _)). states_of (map (end_view state) l)) (sym ends_are) in
+    let said : aborts_of slaves ≡ aborts seats = ap aborts_of slaves_are ∙ sym (aborts_seen q.slaves.items) ∙ sym aborts_are in
+    let who : failed ≡ failed_slave (aborts seats) (states_of (map (end_view state) o.ends.items)) =
+    failed_is ∙ ap (λ (a : List Bool). failed_slave a (states ends2)) said ∙ ap (λ (l : List (SlaveEnd _)). failed_slave (aborts seats) (states l)) ends2_are ∙ ap (failed_slave (aborts seats)) seen in
+    let want : wanted ≡ any_want (states_of (map (end_view state) o.ends.items)) =
+    wanted_is ∙ any_state ends3 ∙ ap (λ (l : List (SlaveEnd _)). any_want (states l)) ends3_are ∙ ap any_want seen in
+    let k0 = kept_of e w.streams w.bytes f.left mid new v (λ (b : List ℕ) (done : List Tag). HasDealt b done d) K D h in
+    wrote state (plan_view q) name f old start mid new ended known has d e v shelves seats K D o op le w still ne de
+    (subst (λ (l : List _). AreSeats state (streams (reading_of w.bytes).tags) (script (reading_of w.bytes).tags) (plan_view q).slaves shelves seats l) (rest_is ∙ sym spare_is) seated)
+    first
+    (λ given k.
+    let x = kept given k in (
+      x.0,
+      subst (λ (l : List (SlaveEnd _)). EndsAll seats given D (map (end_view state) l)) (sym ends_are) x.1,
+      subst (λ (l : List (SlaveEnd _)). AreKept seats given (map (end_view state) l)) (sym ends_are) (all_kept loss meets seats given x.1.histories (map (end_view state) ends) x.1.each),
+    ))
+    (status_is ∙ ap (λ (z : Option ℕ). status_by e z wanted) who ∙ ap (status_by e (failed_slave (aborts seats) (states_of (map (end_view state) o.ends.items)))) want)
+    (λ u du nw. ap is_some (ap (failed_slave (aborts seats)) (sym seen)) ∙ (kept k0.0 k0.1).2 u du (ap any_want seen ∙ nw))
+    tags_are discards_are h
 
 -- a run that made no output
-pub nothing_early : {S : Type 0} (state : S → ShelfState) (s : Status) (asked : Asked) (old new : InputState) (shelves : List S) (o : Outcome S) → IsNothing s shelves o → EndsEarly s asked.source old new → ComesTo state asked old new shelves o
+pub nothing_early : {S : Type 0} (state : S → ShelfState) (s : Status) (asked : Asked) (old new : InputState) (shelves : List S) (o : Outcome S) → IsNothing s shelves o → EndsEarly s asked old new → ComesTo state asked old new shelves o
 nothing_early state s asked old new shelves o n e =
-    inl (record { status_is = refl; tags = n.tags; upto = n.upto; ends = n.ends; spare = n.spare; discards = n.discards }, subst (λ (x : Status). EndsEarly x asked.source old new) (sym n.status_is) e)
-
--- the first of shelves of which none is written on
-pub idle_first : {S : Type 0} (state : S → ShelfState) (xs rest : List S) (s : S) → xs ≡ s ∷ rest → All (λ s. (state s).writing ≡ false) xs → (state s).writing ≡ false
-idle_first state xs rest s e a = (subst (λ (l : List _). All (λ s. (state s).writing ≡ false) l) e a) 0 s (omega arith)
+    inl (record { status_is = refl; tags = n.tags; upto = n.upto; ends = n.ends; spare = n.spare; discards = n.discards }, subst (λ (x : Status). EndsEarly x asked old new) (sym n.status_is) e)
 
 -- a demuxer that was fed nothing tells nothing
 nothing_read : (reading_of []).tags ≡ []
@@ -448,57 +479,6 @@ untold d fresh h = by h.shown
     by (inl e) = ap (λ (s : Shown). if s.known then d.core.known else None) e.0
     by (inr e) = absurd (nothing_sure d.core.probe d.core.reader.ended fresh (h.inner.known e.0 e.1).sure)
 
--- no run says of itself that its report was not written
-early_told : (s : Status) (name : List ℕ) (old new : InputState) → EndsEarly s name old new → s ≡ status.ReportFault → ⊥
-early_told s name old new e same = subst (λ (x : Status). EndsEarly x name old new) same e
-
-written_told : (s : Status) (asked : Asked) (old new : InputState) (first last : ShelfState) (state : EndState) (upto : ℕ) → EndsWritten s asked old new first last state upto → s ≡ status.ReportFault → ⊥
-written_told s asked old new first last state upto e same = subst (λ (x : Status). EndsWritten x asked old new first last state upto) same e
-
-pub comes_told : {S : Type 0} (state : S → ShelfState) (asked : Asked) (old new : InputState) (shelves : List S) (o : Outcome S) → ComesTo state asked old new shelves o → o.status ≡ status.ReportFault → ⊥
-comes_told state asked old new shelves o (inl c) e = early_told o.status asked.source old new c.1 e
-comes_told state asked old new shelves o (inr w) e = written_told o.status asked old new (state w.first) (state w.end.shelf) w.end.state o.upto w.written e
-
-pub words_told : {S : Type 0} (f : WordFault) (shelves : List S) (o : Outcome S) → IsNothing (status.Words f) shelves o → o.status ≡ status.ReportFault → ⊥
-words_told f shelves o n e = no (sym n.status_is ∙ e)
-  where
-    no : status.Words f ≡ status.ReportFault → ⊥
-    no e = cc
-
--- a run of words that ask for this
-pub runs_asked : {S : Type 0} (state : S → ShelfState) (words : Result Asked WordFault) (asked : Asked) (old new : InputState) (shelves : List S) (o p : Outcome S) →
-    words ≡ Ok asked → ComesTo state asked old new shelves o → with_status o.status p ≡ o → IsReported o.status p.status → RunsAs state words old new shelves p
-runs_asked state words asked old new shelves o p e c same r =
-    subst (λ (w : Result Asked WordFault). RunsAs state w old new shelves p) (sym e) (o.status, r, subst (λ (x : Outcome _). ComesTo state asked old new shelves x) (sym same) c)
-
--- a run of words that have a fault
-pub runs_refused : {S : Type 0} (state : S → ShelfState) (words : Result Asked WordFault) (f : WordFault) (now : InputState) (shelves : List S) (o p : Outcome S) →
-    words ≡ Err f → IsNothing (status.Words f) shelves o → with_status o.status p ≡ o → IsReported o.status p.status → RunsAs state words now now shelves p
-runs_refused state words f now shelves o p e n same r =
-    subst (λ (w : Result Asked WordFault). RunsAs state w now now shelves p) (sym e) (
-      record {
-        status_is = kept r;
-        tags = ap (λ (x : Outcome _). x.tags) same ∙ n.tags;
-        upto = ap (λ (x : Outcome _). x.upto) same ∙ n.upto;
-        ends = ap (λ (x : Outcome _). x.ends.items) same ∙ n.ends;
-        spare = ap (λ (x : Outcome _). x.spare.items) same ∙ n.spare;
-        discards = ap (λ (x : Outcome _). x.discards) same ∙ n.discards;
-      },
-      refl,
-    )
-  where
-    no : status.Words f ≡ status.Done → ⊥
-    no e = cc
-
-    kept : IsReported o.status p.status → p.status ≡ status.Words f
-    kept (inl k) = k ∙ n.status_is
-    kept (inr k) = absurd (no (sym n.status_is ∙ k.0))
-
--- the same outcome by its status and its count
-pub counted : (s t : Status) (asked : Asked) (old new : InputState) (first last : ShelfState) (state : EndState) (upto n : ℕ) → s ≡ t → upto ≡ n → EndsWritten t asked old new first last state n → EndsWritten s asked old new first last state upto
-counted s t asked old new first last state upto n es eu h =
-    subst (λ (x : Status). EndsWritten x asked old new first last state upto) (sym es) (subst (λ (u : ℕ). EndsWritten t asked old new first last state u) (sym eu) h)
-
 -- one more of which the same holds
 all_one : {T : Type 0} (P : T → Type 0) (x : T) → P x → All P (x ∷ [])
 all_one P x p zero d h = p
@@ -506,3 +486,117 @@ all_one P x p (suc k) d h = absurd (omega (arith, h))
 
 pub all_more : {T : Type 0} (P : T → Type 0) (xs ys : List T) (x : T) → ys ≡ xs ++ x ∷ [] → All P xs → P x → All P ys
 all_more P xs ys x e a p = subst (λ (l : List _). All P l) (sym e) (All-append P xs (x ∷ []) a (all_one P x p))
+
+-- formats that are built have a muxer
+built_format : (f : Format) → is_built f ≡ true → IsBuilt f
+built_format Flv e = inr (inl refl)
+built_format Adts e = inl refl
+built_format Mpegts e = inr (inr refl)
+built_format Segment e = cc
+
+both_true : (a b : Bool) → (a && b) ≡ true → (a ≡ true) × (b ≡ true)
+both_true true true e = (refl, refl)
+both_true true false e = cc
+both_true false b e = cc
+
+pub all_built : (slaves : List Slave) → are_built slaves ≡ true → All (λ (s : Slave). IsBuilt s.format) slaves
+all_built [] e k d lt = absurd (omega (arith, lt))
+all_built (s ∷ ss) e zero d lt = built_format s.format (both_true (is_built s.format) (are_built ss) e).0
+all_built (s ∷ ss) e (suc k) d lt = all_built ss (both_true (is_built s.format) (are_built ss) e).1 k d (omega (arith, lt))
+
+-- what is asked of the plan of outputs is asked of them as they are seen
+pub built_seen : (slaves : List SlavePlan) → list_all (λ (s : SlavePlan). is_built s.format) slaves ≡ are_built (map view slaves)
+built_seen [] = refl
+built_seen (s ∷ ss) = ap (λ (b : Bool). is_built s.format && b) (built_seen ss)
+
+-- the plan asks for this, or for what isn't built
+pub asked_built : (p : Planned) (name : List ℕ) → p.source ≡ Named name → are_built p.slaves ≡ true → asked_of p ≡ Some (asked_with name p)
+asked_built p name e b = ap (λ (c : Bool). if c then asked_from p.source p else None) b ∙ ap (λ (s : Source). asked_from s p) e
+
+pub asked_unbuilt : (p : Planned) → are_built p.slaves ≡ false → asked_of p ≡ None
+asked_unbuilt p b = ap (λ (c : Bool). if c then asked_from p.source p else None) b
+
+pub comes_named : {S : Type 0} (state : S → ShelfState) (p : Planned) (name : List ℕ) (old new : InputState) (shelves : List S) (o : Outcome S) → asked_of p ≡ Some (asked_with name p) → ComesTo state (asked_with name p) old new shelves o → PlanComesTo state (asked_of p) old new shelves o
+comes_named state p name old new shelves o e c = subst (λ (a : Option Asked). PlanComesTo state a old new shelves o) (sym e) c
+
+pub comes_unbuilt : {S : Type 0} (state : S → ShelfState) (p : Planned) (s : Status) (now : InputState) (shelves : List S) (o : Outcome S) → asked_of p ≡ None → s ≡ status.Words not_built → IsNothing s shelves o → PlanComesTo state (asked_of p) now now shelves o
+comes_unbuilt state p s now shelves o e se n = subst (λ (a : Option Asked). PlanComesTo state a now now shelves o) (sym e) (subst (λ (z : Status). IsNothing z shelves o) se n, refl)
+
+-- the report leaves all but the status
+reported_nothing : {S : Type 0} (s : Status) (shelves : List S) (o p : Outcome S) → (s ≡ status.Done → ⊥) → IsNothing s shelves o → with_status o.status p ≡ o → IsReported o.status p.status → IsNothing s shelves p
+reported_nothing s shelves o p calm n same r = record {
+  status_is = kept r;
+  tags = ap (λ (x : Outcome _). x.tags) same ∙ n.tags;
+  upto = ap (λ (x : Outcome _). x.upto) same ∙ n.upto;
+  ends = ap (λ (x : Outcome _). x.ends.items) same ∙ n.ends;
+  spare = ap (λ (x : Outcome _). x.spare.items) same ∙ n.spare;
+  discards = ap (λ (x : Outcome _). x.discards) same ∙ n.discards;
+}
+  where
+    kept : IsReported o.status p.status → p.status ≡ s
+    kept (inl k) = k ∙ n.status_is
+    kept (inr k) = absurd (calm (sym n.status_is ∙ k.0))
+
+words_done : (f : WordFault) → status.Words f ≡ status.Done → ⊥
+words_done f e = cc
+
+-- a run of words that have a plan
+pub runs_planned : {S : Type 0} (state : S → ShelfState) (a : Option Asked) (old new : InputState) (shelves : List S) (o p : Outcome S) → PlanComesTo state a old new shelves o → with_status o.status p ≡ o → IsReported o.status p.status → RunsPlan state a old new shelves p
+runs_planned state (Some asked) old new shelves o p c same r = (o.status, r, subst (λ (x : Outcome _). ComesTo state asked old new shelves x) (sym same) c)
+runs_planned state None old new shelves o p c same r = (reported_nothing (status.Words not_built) shelves o p (words_done not_built) c.0 same r, c.1)
+
+pub runs_ok : {S : Type 0} (state : S → ShelfState) (words : Placed Planned) (q : Planned) (old new : InputState) (shelves : List S) (o p : Outcome S) → words ≡ Ok q → PlanComesTo state (asked_of q) old new shelves o → with_status o.status p ≡ o → IsReported o.status p.status → RunsAs state words old new shelves p
+runs_ok state words q old new shelves o p e c same r = subst (λ (w : Placed Planned). RunsAs state w old new shelves p) (sym e) (inl (runs_planned state (asked_of q) old new shelves o p c same r))
+
+-- which outputs abort is said by their plans
+pub aborts_by : {S : Type 0} (state : S → ShelfState) (infos : List StreamInfo) (script : Option (List ℕ)) (slaves : List Slave) (shelves : List S) (seats : List Seat) (rest : List S) → AreSeats state infos script slaves shelves seats rest → aborts seats ≡ map (λ (s : Slave). s.abort) slaves
+aborts_by state infos script [] shelves [] rest a = refl
+aborts_by state infos script [] shelves (seat ∷ seats) rest a = absurd a
+aborts_by state infos script (s ∷ ss) [] seats rest a = absurd a
+aborts_by state infos script (s ∷ ss) (x ∷ xs) [] rest a = absurd a
+aborts_by state infos script (s ∷ ss) (x ∷ xs) (seat ∷ seats) rest a =
+    ap (λ (t : Slave). t.abort ∷ aborts seats) a.0.slave ∙ ap (λ (l : List Bool). s.abort ∷ l) (aborts_by state infos script ss xs seats rest a.1)
+
+-- the script that the demuxer tells
+pub script_found : (limit : ℕ) (f : Found) (start mid : InputState) (d : DemuxState) → (w : FoundIn f limit start mid d.core.reader.ended (told d) (λ (b : List ℕ) (done : List Tag). HasDealt b done d)) → d.core.probe.script ≡ script (reading_of w.bytes).tags
+script_found limit f start mid d w =
+    let t = first_dealt w.streams w.bytes f.first (λ (done : List Tag). HasDealt w.bytes done d) w.first in
+    let k = t.1.inner.known w.streams (told_known d w.streams w.finds.known_is).1 in
+    ap (λ (q : Probe). q.script) (sure_all d.core.probe w.bytes d.core.reader.ended k.sure)
+
+pub script_told : {T : Type 0} (body_of : T → List ℕ) (result : Option T) (known : Bool) (said : Option (List ℕ)) → known ≡ true → MatchOption result (known ≡ true → said ≡ None) (λ body. (known ≡ true) × (said ≡ Some (body_of body))) → option_map body_of result ≡ said
+script_told body_of None known said k m = sym (m k)
+script_told body_of (Some body) known said k m = sym m.1
+
+-- outputs could not be made
+pub unmade_early : (fault : TeeFault) (limit : ℕ) (f : Found) (name : List ℕ) (p : Planned) (old start mid : InputState) (d : DemuxState) (infos : List StreamInfo) → limit ≡ clamped p.max_bytes → IsNoneFault fault (first_without infos p.slaves) → Opened name old start → (w : FoundIn f limit start mid d.core.reader.ended (told d) (λ (b : List ℕ) (done : List Tag). HasDealt b done d)) → infos ≡ d.core.infos → EndsEarly (unmade_by fault) (asked_with name p) old mid
+unmade_early (tee_fault.NoneSelected k) limit f name p old start mid d infos same none o w known = record {
+  infos = infos;
+  some = λ n. absurd (few (some_infos limit f start mid d infos w known) n);
+  first = none;
+  settled = record {
+    bytes = w.bytes;
+    taken = taken name _ w.bytes old start mid o w.took (omega (arith, w.long, same));
+    streams_are = sym (known ∙ infos_found limit f start mid d w);
+    settled = subst (λ (l : ℕ). IsSettled l w.bytes mid) same (settled_now limit f start mid d.core.reader.ended (told d) (λ (b : List ℕ) (done : List Tag). HasDealt b done d) w);
+    calm = w.finds.calm;
+  };
+}
+  where
+    few : 0 < length infos → infos ≡ [] → ⊥
+    few h n = omega (arith, h, ap length n)
+unmade_early tee_fault.NoMemory limit f name p old start mid d infos same none o w known = tt
+
+pub seats_found : {S : Type 0} (state : S → ShelfState) (slaves : List Slave) (shelves rest : List S) (seats : List Seat) (infos found : List StreamInfo) (said body : Option (List ℕ)) → infos ≡ found → said ≡ body → AreSeats state infos said slaves shelves seats rest → AreSeats state found body slaves shelves seats rest
+seats_found state slaves shelves rest seats infos found said body e h a =
+    subst (λ (l : List StreamInfo). AreSeats state l body slaves shelves seats rest) e (subst (λ (c : Option (List ℕ)). AreSeats state infos c slaves shelves seats rest) h a)
+
+pub found_within : (f : Found) (m n : ℕ) (old new : InputState) (ended : Bool) (known : Option Kinds) (has : List ℕ → List Tag → Type 0) → m ≡ n → FoundIn f m old new ended known has → FoundIn f n old new ended known has
+found_within f m n old new ended known has e w = subst (λ (l : ℕ). FoundIn f l old new ended known has) e w
+
+pub finding_within : (u : Unfound) (m n : ℕ) (old new : InputState) (ended : Bool) (known : Option Kinds) (has : List ℕ → List Tag → Type 0) → m ≡ n → Finding (Err u) m old new ended known has → Finding (Err u) n old new ended known has
+finding_within u m n old new ended known has e w = subst (λ (l : ℕ). Finding (Err u) l old new ended known has) e w
+
+-- outputs are built where the test said so
+pub built_said : (q slaves : List SlavePlan) (r b : Bool) → slaves ≡ q → r ≡ list_all (λ (s : SlavePlan). is_built s.format) slaves → r ≡ b → are_built (map view q) ≡ b
+built_said q slaves r b e h k = sym (built_seen q) ∙ ap (list_all (λ (s : SlavePlan). is_built s.format)) (sym e) ∙ sym h ∙ k

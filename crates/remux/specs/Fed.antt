@@ -1,12 +1,8 @@
--- What a tee answers to a packet.
-use Rattle.std.specs.Prelude.{◌≡◌, ℕ, ◌+◌, ◌≤◌, Bool, true, false, List, [], ◌∷◌, ◌++◌, length, Result, Ok, Err}
+-- What a feeding does to outputs.
+use Rattle.std.specs.Prelude.{◌≡◌, ℕ, ◌+◌, ◌≤◌, Bool, List, [], ◌∷◌, ◌++◌, length, Result, Ok, Err}
 use Rattle.rmx_media.specs.declared.packet.Packet.{Packet}
-use Rattle.remux.specs.declared.outputs.Fed.{Fed}
-use Rattle.remux.specs.declared.outputs.Fed.TheVariants.{More, Stop}
-
-abbrev pub is_stop : Fed → Bool
-is_stop Stop = true
-is_stop More = false
+use Rattle.tee.specs.declared.fed.Fed.{Fed}
+use Rattle.tee.specs.Fed.{is_stop}
 
 -- p was given, and the answer tells whether it is dead now
 pub record Takes (stopped : Bool) (p : Packet) (kept keeps : List Packet → Type 0) (old new : ℕ → Bool) : Type 0 where

@@ -3,8 +3,8 @@ use Rattle.std.specs.Prelude.{◌≡◌, ℕ, ◌<◌, ◌+◌, Bool, true, fals
 use Rattle.rmx_media.specs.declared.packet.Packet.{Packet}
 use Rattle.interleaver.specs.Interleave.{emitted}
 use Rattle.interleaver.specs.Queues.{Pending, goes}
-use Rattle.remux.specs.declared.outputs.Fed.{Fed}
-use Rattle.remux.specs.Fed.{is_stop}
+use Rattle.tee.specs.declared.fed.Fed.{Fed}
+use Rattle.tee.specs.Fed.{is_stop}
 use Rattle.remux.specs.Gave.{Gave, Advances}
 use Rattle.remux.specs.Flow.{Flow}
 

@@ -1,7 +1,5 @@
 pub mod Fit
 pub mod Told
-pub mod Origin
-pub mod Output
 pub mod Gave
 pub mod Fed
 pub mod Handed
@@ -14,6 +12,10 @@ pub mod Under
 pub mod Finding
 pub mod Carried
 pub mod Starting
-pub mod Words
+pub mod Asked
+pub mod Came
+pub mod Ending
+pub mod Kept
+pub mod States
 pub mod Report
 pub mod Outcome

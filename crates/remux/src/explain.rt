@@ -1,54 +1,98 @@
 // What is said to people, on standard error. No promise speaks of it.
+use crate::help::wrong_word;
+use crate::run::Outcome;
 use crate::status::{Ending, Refusal, Status};
+use fifo_core::{EndState, Fate};
+use slave::{Run, SlaveEnd};
 use std::io;
 
-/// What the program answers where it is asked for help.
-pub const HELP: &str = "\
-usage: remux -i INPUT.flv -f adts OUTPUT.aac
-
-Copies the audio stream of an FLV file into an ADTS file. Nothing is decoded.
-A name has 1 to 200 bytes, none of them a control character, and that of the output doesn't begin with a hyphen.
-
-Standard output has one line on how the run ended, which begins with `status` and the number that the program ends with:
-  0  all packets are written
-  1  the words ask for nothing that is built
-  2  the input failed
-  3  the input can't be written so
-  4  the input ended early; what was there is written
-  5  the output failed
-  6  there wasn't enough memory
-  7  the report could not be written
-";
-
-/// What the program answers where it is asked for its version.
-pub const VERSION: &str = "remux 0.1.0\n";
-
-/// Says how a run ended that has no good end, with the system's own words where it has some.
-pub fn explain<R: Eprint>(rt: &R, status: Status, error: Option<&io::Error>) -> io::Result<()> {
-    match (status, error) {
-        (Status::Done, _) => Ok(()),
-        (_, Some(error)) => eprintln!(rt; "remux: {}: {error}", sentence(status)),
-        (_, None) => eprintln!(rt; "remux: {}", sentence(status)),
+/// Says how a run ended that has no good end, with the system's own words where it has some, and which packets each output
+/// lacks and why. Nothing is said where all is well.
+pub fn explain<R: Eprint, S>(
+    rt: &R,
+    words: &[String],
+    outcome: &Outcome<S>,
+    error: Option<&io::Error>,
+) -> io::Result<()> {
+    match (outcome.status, error) {
+        (Status::Done, _) => {}
+        (Status::Words(fault), _) => {
+            let word = match usize::try_from(fault.word) {
+                Ok(at) if at < words.len() => words[at].as_str(),
+                _ => "",
+            };
+            eprintln!(rt;
+                "remux: word {} ({word}): {}",
+                fault.word,
+                wrong_word(fault.kind)
+            )?;
+            eprintln!(rt; "remux: try 'remux --help'")?;
+        }
+        (Status::SlaveFailed(slave), Some(error)) => {
+            eprintln!(rt; "remux: output {slave} could not be written whole: {error}")?
+        }
+        (Status::SlaveFailed(slave), None) => {
+            eprintln!(rt; "remux: output {slave} could not be written whole")?
+        }
+        (Status::InputRefused(Refusal::NoneSelected(slave)), _) => {
+            eprintln!(rt; "remux: output {slave} takes none of the input's streams")?
+        }
+        (status, Some(error)) => eprintln!(rt; "remux: {}: {error}", sentence(status))?,
+        (status, None) => eprintln!(rt; "remux: {}", sentence(status))?,
     }
+    for (slave, end) in outcome.ends.as_slice().iter().enumerate() {
+        explain_end(rt, slave, end)?;
+    }
+    Ok(())
+}
+
+// Says how an output ended that isn't whole.
+fn explain_end<R: Eprint, S>(rt: &R, slave: usize, end: &SlaveEnd<S>) -> io::Result<()> {
+    match end.state {
+        EndState::Closed => {}
+        EndState::Failed => eprintln!(rt; "remux: output {slave} failed")?,
+        EndState::NoMemory => eprintln!(rt; "remux: output {slave} wanted memory")?,
+    }
+    for run in end.fates.as_slice() {
+        explain_run(rt, slave, run)?;
+    }
+    Ok(())
+}
+
+// Says which packets an output lacks, and why.
+fn explain_run<R: Eprint>(rt: &R, slave: usize, run: &Run) -> io::Result<()> {
+    let cause = match run.fate {
+        Fate::Written(_) => return Ok(()),
+        Fate::Refused(_) => "its queue was full",
+        Fate::Flushed(_) => "dropped after its queue was full",
+        Fate::KeyWait => "it waits for a key packet",
+        Fate::Lost(_) => "it failed, or waits before it tries again",
+        Fate::AfterFailure(_) => "it was given up after a failure",
+        Fate::NoMemory => "there wasn't enough memory",
+    };
+    let last = run.first.saturating_add(run.count).saturating_sub(1);
+    eprintln!(rt;
+        "remux: output {slave} lacks packets {} to {last} ({} packets): {cause}",
+        run.first, run.count
+    )
 }
 
 fn sentence(status: Status) -> &'static str {
     match status {
         Status::Done => "all packets are written",
-        Status::Words(_) =>
-            "the words ask for nothing that is built; try: remux -i INPUT.flv -f adts OUTPUT.aac",
+        Status::Words(_) => "the words ask for nothing",
         Status::InputFault => "the input could not be read",
         Status::InputRefused(Refusal::NotFlv) => "the input is no FLV file of version 1",
         Status::InputRefused(Refusal::BadOffset) =>
             "the input's header says that its tags begin inside the header",
         Status::InputRefused(Refusal::NoStreams) =>
             "the input has no stream of AVC video or AAC audio",
-        Status::InputRefused(Refusal::NoneSelected(_)) => "the input has no audio stream",
+        Status::InputRefused(Refusal::NoneSelected(_)) => "an output takes none of the streams",
         Status::InputEnded(Ending::Cut) =>
             "the input ends inside a tag; what came before is written",
         Status::InputEnded(Ending::Limit) =>
-            "the input is longer than is read; what came first is written",
-        Status::SlaveFailed(_) => "the output could not be written whole",
+            "as many bytes were read as may be; what came first is written",
+        Status::SlaveFailed(_) => "an output could not be written whole",
         Status::NoMemory => "there wasn't enough memory",
         Status::ReportFault => "all packets are written, but the report could not be",
     }

@@ -1,4 +1,4 @@
-//! Copies the audio stream of an FLV file into an ADTS file, decodes nothing, and reports how that ended.
+//! Copies the streams of an FLV file into other files, decodes nothing, and reports how that ended.
 #![tactic(auto)]
 
 ghost use Rattle.std.specs.Prelude.{◌≡◌, false, length, All, IfOk};
@@ -6,9 +6,10 @@ ghost use Rattle.rmx_edge.specs.Shelf.{ShelfState};
 
 mod carry;
 mod demux;
+mod ending;
 mod explain;
 mod give;
-mod output;
+mod help;
 mod outputs;
 mod probe;
 mod pump;
@@ -19,9 +20,9 @@ mod status;
 mod take;
 #[cfg(test)]
 mod tests;
-mod words;
 
-use explain::{HELP, VERSION, explain};
+use explain::explain;
+use help::{HELP, VERSION};
 use rmx_edge::{Claim, DirShelf, FileInputs, Shelf, StdSink, claims};
 use run::{Outcome, run_direct};
 use status::Status;
@@ -67,7 +68,12 @@ where
 {
     match outcome.status {
         Status::InputFault => inputs.last_error(),
-        Status::SlaveFailed(_) => outcome.ends.as_slice().first()?.shelf.last_error(),
+        Status::SlaveFailed(slave) => outcome
+            .ends
+            .as_slice()
+            .get(slave as usize)?
+            .shelf
+            .last_error(),
         _ => None,
     }
 }
@@ -102,6 +108,11 @@ fn main(rt: HostRuntime) -> io::Result<ExitCode> {
     let mut inputs = FileInputs::new(rt.clone()?, claim);
     let mut out = StdSink::new(rt.clone()?);
     let outcome = run_direct(alloc, &words, &mut inputs, shelves, &mut out);
-    explain(&rt, outcome.status, system_error(&inputs, &outcome))?;
+    explain(
+        &rt,
+        words.as_slice(),
+        &outcome,
+        system_error(&inputs, &outcome),
+    )?;
     Ok(ExitCode::from(outcome.status.number()))
 }

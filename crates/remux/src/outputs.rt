@@ -1,22 +1,18 @@
 // Several outputs, seen as one that is fed.
 ghost use Rattle.std.specs.Prelude.{◌≡◌, ℕ, ◌<◌, ◌^◌, List, Bool, OnErr, length};
 ghost use Rattle.rmx_media.specs.declared.packet.Packet.{Packet};
-ghost use Rattle.remux.specs.Origin.{Origin};
+ghost use Rattle.tee.specs.Keeps.{dead_in, infos_of, Keeps};
+ghost use Rattle.tee.specs.Seat.{IsInput, Seat};
 ghost use Rattle.remux.specs.Fed.{Answers};
 
+use rmx_edge::Shelf;
 use rmx_media::{NoMemory, Packet as Piece};
-
-/// Whether more packets are wanted.
-#[derive(Clone, Copy, Debug, PartialEq, Eq)]
-pub enum Fed {
-    More,
-    Stop,
-}
+use tee::{Fed, Tee};
 
 /// Outputs that are fed packet by packet.
 pub trait Outputs {
     /// They were made of these, and were given these packets.
-    ghost keeps: { Self → List Origin → List Packet → Type 0 };
+    ghost keeps: { Self → List Seat → List Packet → Type 0 };
 
     /// After so many packets an output that aborts, or every one, is known to be dead.
     ghost dead_at: { Self → ℕ → Bool };
@@ -26,9 +22,34 @@ pub trait Outputs {
 
     /// Gives them a packet. Stop says that an output that aborts, or every one, is dead.
     fn feed(&mut self, p: &Piece) -> Result<Fed, NoMemory>
-        requires ready { (start : List Origin) × (given : List Packet) × keeps self.old start given × (length given < 2 ^ 61) }
+        requires ready { (start : List Seat) × (given : List Packet) × keeps self.old start given × (length given < 2 ^ 61) }
         requires taken { takes self.old p.now }
-        ensures fed { (start : List Origin) → Answers result p.now (keeps self.old start) (keeps self.new start) (dead_at self.old) (dead_at self.new) }
+        ensures fed { (start : List Seat) → Answers result p.now (keeps self.old start) (keeps self.new start) (dead_at self.old) (dead_at self.new) }
         ensures takes { (q : Packet) → takes self.old q → takes self.new q }
         ensures err { OnErr result (self.new ≡ self.old) };
+}
+
+/// All outputs of a run, and how many packets they were given.
+#[derive(Drop)]
+pub struct Handover<S: Shelf> {
+    pub tee: Tee<S>,
+    pub given: u64,
+}
+
+impl<S: Shelf> Outputs for Handover<S> {
+    ghost keeps = { λ h start given. Keeps S.state h.tee start given × (h.given ≡ length given) };
+
+    ghost dead_at = { λ h u. dead_in h.tee u };
+
+    ghost takes = { λ h p. IsInput (infos_of h.tee) p };
+
+    fn feed(&mut self, p: &Piece) -> Result<Fed, NoMemory> {
+        match self.tee.feed(p) {
+            Ok(fed) => {
+                self.given += 1;
+                Ok(fed)
+            }
+            Err(refused) => Err(refused),
+        }
+    }
 }

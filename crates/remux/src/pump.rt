@@ -1,16 +1,17 @@
 // All packets of the bytes at hand.
 ghost use Rattle.std.specs.Prelude.{◌≡◌, ◌<◌, ◌^◌, List, ℕ, length};
-ghost use Rattle.remux.specs.Origin.{Origin};
+ghost use Rattle.tee.specs.Seat.{Seat};
 ghost use Rattle.flv_demux.specs.declared.deal.Kinds.{Kinds};
 ghost use Rattle.remux.specs.Flow.{Flowing};
 ghost use Rattle.remux.specs.Pumped.{Pumps};
 
 use crate::demux::Demux;
 use crate::give::hand_over;
-use crate::outputs::{Fed, Outputs};
+use crate::outputs::Outputs;
 use flv_demux::{DemuxFault, DemuxStep};
 use flv_tags::TagFault;
 use interleaver::Interleaver;
+use tee::Fed;
 
 /// Why no further packet is at hand.
 #[derive(Clone, Copy, Debug, PartialEq, Eq)]
@@ -33,8 +34,8 @@ pub fn pump<D: Demux, T: Outputs>(
     line: &mut Interleaver,
     outputs: &mut T,
 ) -> Result<Pumped, PumpFault>
-    requires flows { (s : Kinds) × (b : List ℕ) × (start : List Origin) × Flowing s b (D.known demux.old) (D.has demux.old) line.old (T.keeps outputs.old start) (T.dead_at outputs.old) (T.takes outputs.old) × (length b < 2 ^ 61) }
-    ensures pumps { (s : Kinds) (b : List ℕ) (start : List Origin) → (f : Flowing s b (D.known demux.old) (D.has demux.old) line.old (T.keeps outputs.old start) (T.dead_at outputs.old) (T.takes outputs.old))
+    requires flows { (s : Kinds) × (b : List ℕ) × (start : List Seat) × Flowing s b (D.known demux.old) (D.has demux.old) line.old (T.keeps outputs.old start) (T.dead_at outputs.old) (T.takes outputs.old) × (length b < 2 ^ 61) }
+    ensures pumps { (s : Kinds) (b : List ℕ) (start : List Seat) → (f : Flowing s b (D.known demux.old) (D.has demux.old) line.old (T.keeps outputs.old start) (T.dead_at outputs.old) (T.takes outputs.old))
         → Pumps result s b (length f.tags) (D.ended demux.old) (D.known demux.new) (D.has demux.new) line.new (T.keeps outputs.new start) (T.dead_at outputs.new) (T.takes outputs.new) }
     ensures ended { D.ended demux.new ≡ D.ended demux.old }
     ensures same { (line.new.streams ≡ line.old.streams) × (line.new.delta ≡ line.old.delta) }

@@ -1,40 +1,44 @@
 // The top call.
-ghost use Rattle.std.specs.Prelude.{◌≡◌, ◌<◌, ◌≤◌, false, true, length, All, IfOk, IsErrOf, MatchOption, Some, None, [], ◌∷◌};
+ghost use Rattle.std.specs.Prelude.{◌≡◌, ◌<◌, ◌≤◌, ℕ, List, false, true, length, map, string_bytes, All, IfOk, None};
+ghost use Rattle.std.specs.List.{list_all};
 ghost use Rattle.rmx_edge.specs.Inputs.{InputState};
 ghost use Rattle.flv_tags.specs.Tags.{reading_of};
 ghost use Rattle.flv_demux.specs.Deal.{no_discards};
-ghost use Rattle.flv_demux.specs.Probe.{streams};
-ghost use Rattle.flv_demux.specs.State.{AreSoundInfos, HasDealt};
+ghost use Rattle.flv_demux.specs.Probe.{script, streams};
+ghost use Rattle.flv_demux.specs.State.{HasDealt};
+ghost use Rattle.options.specs.Valid.{IsValidPlan};
+ghost use Rattle.options.specs.Words.{plan, plan_view};
+ghost use Rattle.tee.specs.Keeps.{spare_of};
+ghost use Rattle.tee.specs.Seat.{AreSeats, first_without, Seat};
+ghost use Rattle.remux.specs.Asked.{are_built, asked_of, asked_with, clamped, is_built, not_built as unbuilt};
 ghost use Rattle.remux.specs.Finding.{FoundIn};
-ghost use Rattle.remux.specs.Output.{EndsCaused, EndsSound};
 ghost use Rattle.remux.specs.Told.{told};
 ghost use Rattle.remux.specs.Took.{StaysSound};
-ghost use Rattle.remux.specs.Words.{plan};
-ghost use Rattle.remux.specs.Outcome.{asked_by, audio_in, ComesTo, EndsWritten, IsMade, IsNothing, max_bytes, Opened, ReadsSound, refused_by, RunsAs, unmade_by, status_by, IsReported, with_status};
+ghost use Rattle.remux.specs.Outcome.{ComesTo, IsMade, IsNothing, IsReported, IsWritten, Opened, PlanComesTo, ReadsAsked, ReadsSound, refused_by, RunsAs, unmade_by, with_status, word_status};
 ghost use Rattle.remux.specs.Report.{Reports};
 
 use crate::carry::carry;
-use crate::output::{Output, SlaveEnd};
+use crate::ending::{any_want, failed_slave, status_of};
+use crate::outputs::Handover;
 use crate::probe::{Found, Unfound, find_streams};
-use crate::read::ReadEnd;
 use crate::report::report;
-use crate::status::{Ending, Refusal, Status};
-use crate::words::{Plan, read_words};
-use fifo_core::EndState;
+use crate::status::{Refusal, Status};
 use flv_demux::{Demuxer, Discards};
 use interleaver::Interleaver;
+use options::{Plan, SlavePlan, Source, WordFault, WordKind, read_words};
 use rmx_edge::{Inputs, Shelf, Sink};
-use rmx_media::{Items, Kind, MuxStream, MuxStreams, NoMemory, StreamInfo};
+use rmx_media::{Format, Items, NoMemory};
+use slave::{SlaveEnd, ends_meet_accounts, no_fault_no_loss};
 use std::alloc::Global;
+use tee::{Tee, TeeEnd, TeeFault};
 
 /// How much is read at a time, in bytes.
 const PIECE: usize = 65536;
 
-/// How many bytes are taken of an input at most.
-const MAX_BYTES: u64 = 1 << 40;
+/// How many bytes are taken of an input at least, before it may be refused, and at most.
+const FEWEST_BYTES: u64 = 9;
 
-/// How far packets that wait may lie apart, in microseconds.
-const MAX_INTERLEAVE_DELTA: u64 = 10_000_000;
+const MOST_BYTES: u64 = 1 << 40;
 
 /// What a run comes to.
 #[derive(Drop)]
@@ -54,7 +58,7 @@ pub struct Outcome<S> {
 
 /// Runs the words on these inputs and shelves, on one thread, and writes the report.
 ///
-/// The input's first `MAX_BYTES` bytes are read, in pieces of at most `PIECE` bytes.
+/// The input is read in pieces of at most `PIECE` bytes.
 pub fn run_direct<I: Inputs, S: Shelf + Drop, O: Sink>(
     alloc: Global,
     words: &[String],
@@ -64,13 +68,23 @@ pub fn run_direct<I: Inputs, S: Shelf + Drop, O: Sink>(
 ) -> Outcome<S>
     requires sixteen { length shelves.items ≡ 16 }
     requires idle { All (λ s. (S.state s).writing ≡ false) shelves.items }
-    ensures outcome { RunsAs S.state (plan words.now) (I.state inputs.old) (I.state inputs.new) shelves.items result }
-    ensures report { Reports result.status (O.state out.old) (O.state out.new) }
-    ensures sound { ReadsSound (plan words.now) (I.state inputs.old) (I.state inputs.new) }
+    ensures outcome { RunsAs S.state (plan (map string_bytes words.now)) (I.state inputs.old) (I.state inputs.new) shelves.items result }
+    ensures report { Reports result (O.state out.old) (O.state out.new) }
+    ensures sound { ReadsSound (plan (map string_bytes words.now)) (I.state inputs.old) (I.state inputs.new) }
 {
-    match read_words(words) {
+    match read_words(alloc, words) {
         Ok(plan) => reported(run_plan(alloc, &plan, inputs, shelves), out),
-        Err(fault) => reported(nothing(alloc, Status::Words(fault), shelves), out),
+        Err(fault) => reported(nothing(alloc, word_status(fault), shelves), out),
+    }
+}
+
+// How a run ends whose words have a fault.
+fn word_status(fault: WordFault) -> Status
+    ensures { result ≡ word_status fault }
+{
+    match fault.kind {
+        WordKind::NoMemory => Status::NoMemory,
+        _ => Status::Words(fault),
     }
 }
 
@@ -79,9 +93,9 @@ fn reported<S: Drop, O: Sink>(mut outcome: Outcome<S>, out: &mut O) -> Outcome<S
     requires { (outcome.status ≡ Status.ReportFault → ⊥) }
     ensures same { with_status outcome.status result ≡ outcome }
     ensures status { IsReported outcome.status result.status }
-    ensures report { Reports result.status (O.state out.old) (O.state out.new) }
+    ensures report { Reports result (O.state out.old) (O.state out.new) }
 {
-    outcome.status = report(outcome.status, out);
+    outcome.status = report(&outcome, out);
     outcome
 }
 
@@ -96,59 +110,6 @@ fn nothing<S>(alloc: Global, status: Status, shelves: Vec<S>) -> Outcome<S>
         ends: Items::new(alloc),
         spare: Items::from_vec(shelves),
         discards: none_passed(),
-    }
-}
-
-// So many bytes.
-fn buffer(alloc: Global, size: usize) -> Result<Vec<u8>, NoMemory>
-    ensures { IfOk result (λ v. length v.items ≡ size) }
-{
-    match vec![in alloc; 0u8; size] {
-        Ok(bytes) => Ok(bytes),
-        Err(_) => Err(NoMemory),
-    }
-}
-
-// Runs a plan, up to the report.
-fn run_plan<I: Inputs, S: Shelf + Drop>(
-    alloc: Global,
-    plan: &Plan<'_>,
-    inputs: &mut I,
-    shelves: Vec<S>,
-) -> Outcome<S>
-    requires some { 0 < length shelves.items }
-    requires idle { All (λ s. (S.state s).writing ≡ false) shelves.items }
-    ensures comes { ComesTo S.state (asked_by plan.now) (I.state inputs.old) (I.state inputs.new) shelves.items result }
-    ensures sound { (I.state inputs.old).sound_at plan.now.source.now ≡ true → (I.state inputs.new).faults ≡ (I.state inputs.old).faults }
-{
-    let mut buf = match buffer(alloc, PIECE) {
-        Ok(buf) => buf,
-        Err(_) => return nothing(alloc, Status::NoMemory, shelves),
-    };
-    let mut demux = match Demuxer::new(alloc) {
-        Ok(demux) => demux,
-        Err(_) => return nothing(alloc, Status::NoMemory, shelves),
-    };
-    match inputs.open_input(plan.source) {
-        Ok(()) => {}
-        Err(_) => return nothing(alloc, Status::InputFault, shelves),
-    }
-    match find_streams(inputs, &mut demux, &mut buf, MAX_BYTES) {
-        Ok(found) => write_found(alloc, plan, inputs, &mut demux, &mut buf, found, shelves),
-        Err(unfound) => nothing(alloc, refused(unfound), shelves),
-    }
-}
-
-// How a run ends whose input has no streams.
-fn refused(unfound: Unfound) -> Status
-    ensures { result ≡ refused_by unfound }
-{
-    match unfound {
-        Unfound::NotFlv => Status::InputRefused(Refusal::NotFlv),
-        Unfound::BadOffset => Status::InputRefused(Refusal::BadOffset),
-        Unfound::NoStreams => Status::InputRefused(Refusal::NoStreams),
-        Unfound::InputFault => Status::InputFault,
-        Unfound::NoMemory => Status::NoMemory,
     }
 }
 
@@ -167,182 +128,131 @@ fn none_passed() -> Discards
     }
 }
 
-// The audio stream, by its number.
-fn audio_of(infos: &[StreamInfo]) -> Option<(u32, &StreamInfo)>
-    ensures { MatchOption result (audio_in infos.now ≡ None) (λ x. audio_in infos.now ≡ Some (x.0, x.1.now)) }
+// So many bytes.
+fn buffer(alloc: Global, size: usize) -> Result<Vec<u8>, NoMemory>
+    ensures { IfOk result (λ v. length v.items ≡ size) }
 {
-    match infos {
-        [one] if one.kind == Kind::Audio => Some((0, one)),
-        [_, two, ..] if two.kind == Kind::Audio => Some((1, two)),
-        _ => None,
-    }
-}
-
-/// What an output is made of.
-#[derive(Drop)]
-pub struct Made {
-    pub streams: MuxStreams,
-    /// The number of the stream that it takes.
-    pub stream: u32,
-    pub line: Interleaver,
-}
-
-/// Why no output is made.
-#[derive(Clone, Copy)]
-enum Unmade {
-    NoneSelected,
-    NoMemory,
-}
-
-// How a run ends of which no output is made.
-fn unmade_status(unmade: Unmade) -> Status
-    ensures { result ≡ unmade_by unmade }
-{
-    match unmade {
-        Unmade::NoneSelected => Status::InputRefused(Refusal::NoneSelected(0)),
-        Unmade::NoMemory => Status::NoMemory,
-    }
-}
-
-// One stream as those of an output.
-fn one_stream(alloc: Global, stream: u32, info: &StreamInfo) -> Result<MuxStreams, NoMemory>
-    ensures { IfOk result (λ m. (m.streams.items ≡ record { stream = stream; info = info.now } ∷ []) × (m.script ≡ None)) }
-{
-    let info = info.copy()?;
-    let mut streams = Vec::new(alloc);
-    match streams.push(MuxStream { stream, info }) {
-        Ok(()) => Ok(MuxStreams {
-            streams: Items::from_vec(streams),
-            script: None,
-        }),
+    match vec![in alloc; 0u8; size] {
+        Ok(bytes) => Ok(bytes),
         Err(_) => Err(NoMemory),
     }
 }
 
-// Makes what an ADTS output of these streams is made of.
-fn make(alloc: Global, infos: &[StreamInfo]) -> Result<Made, Unmade>
-    requires sound { AreSoundInfos infos.now }
-    requires some { 0 < length infos.now }
-    ensures made { IfOk result (IsMade infos.now) }
-    ensures none { IsErrOf result Unmade.NoneSelected → audio_in infos.now ≡ None }
+// Whether outputs of that format can be written.
+fn is_built(format: Format) -> bool
+    ensures { result ≡ is_built format }
 {
-    let (stream, info) = match audio_of(infos) {
-        Some(found) => found,
-        None => return Err(Unmade::NoneSelected),
-    };
-    let streams = match one_stream(alloc, stream, info) {
-        Ok(streams) => streams,
-        Err(_) => return Err(Unmade::NoMemory),
-    };
-    match Interleaver::new(alloc, infos.len() as u32, MAX_INTERLEAVE_DELTA) {
-        Ok(line) => Ok(Made {
-            streams,
-            stream,
-            line,
-        }),
-        Err(_) => Err(Unmade::NoMemory),
+    match format {
+        Format::Flv | Format::Adts | Format::Mpegts => true,
+        Format::Segment => false,
     }
 }
 
-// How a run ends whose output and reading ended so.
-fn ending_of(state: EndState, end: ReadEnd) -> Status
-    ensures { result ≡ status_by state end }
+fn are_built(slaves: &[SlavePlan]) -> bool
+    ensures { result ≡ list_all (λ s. is_built s.format) slaves.now }
 {
-    match state {
-        EndState::Closed => match end {
-            ReadEnd::Whole => Status::Done,
-            ReadEnd::Cut => Status::InputEnded(Ending::Cut),
-            ReadEnd::Limit => Status::InputEnded(Ending::Limit),
-            ReadEnd::InputFault => Status::InputFault,
-            ReadEnd::Stop => Status::SlaveFailed(0),
-            ReadEnd::NoMemory => Status::NoMemory,
-        },
-        EndState::Failed => match end {
-            ReadEnd::NoMemory => Status::NoMemory,
-            ReadEnd::Whole => Status::SlaveFailed(0),
-            ReadEnd::Cut => Status::SlaveFailed(0),
-            ReadEnd::Limit => Status::SlaveFailed(0),
-            ReadEnd::InputFault => Status::SlaveFailed(0),
-            ReadEnd::Stop => Status::SlaveFailed(0),
-        },
-        EndState::NoMemory => Status::NoMemory,
-    }
+    slaves.iter().all(|slave| is_built(slave.format))
 }
 
-/// What came of an output.
-#[derive(Drop)]
-struct Written<S> {
-    end: SlaveEnd<S>,
-    status: Status,
-    upto: u64,
-}
-
-// Writes an output that was made.
-fn write_made<I: Inputs, S: Shelf + Drop>(
-    plan: &Plan<'_>,
+// Runs a plan, up to the report.
+fn run_plan<I: Inputs, S: Shelf + Drop>(
+    alloc: Global,
+    plan: &Plan,
     inputs: &mut I,
-    demux: &mut Demuxer,
-    made: Made,
-    buf: &mut [u8],
-    found: Found,
-    shelf: S,
-) -> Written<S>
-    requires room { 0 < length buf.old }
-    requires small { length buf.old ≤ 65536 }
-    requires idle { (S.state shelf).writing ≡ false }
-    requires found { (start : InputState) × (w : FoundIn found max_bytes start (I.state inputs.old) demux.old.core.reader.ended (told demux.old) (λ b done. HasDealt b done demux.old)) × IsMade (streams (reading_of w.bytes).tags) made }
-    ensures sound { StaysSound (I.state inputs.old) (I.state inputs.new) }
-    ensures caused { EndsCaused result.end.state (S.state shelf) (S.state result.end.shelf) }
-    ensures calm { EndsSound result.end.state (S.state shelf) (S.state result.end.shelf) }
-    ensures written { (old start : InputState) → Opened plan.now.source.now old start → start.faults ≤ (I.state inputs.old).faults
-        → (w : FoundIn found max_bytes start (I.state inputs.old) demux.old.core.reader.ended (told demux.old) (λ b done. HasDealt b done demux.old)) → IsMade (streams (reading_of w.bytes).tags) made
-        → EndsWritten result.status (asked_by plan.now) old (I.state inputs.new) (S.state shelf) (S.state result.end.shelf) result.end.state result.upto }
-{
-    let Made {
-        streams,
-        stream,
-        mut line,
-    } = made;
-    let mut output = Output::begin(streams, stream, plan.target, shelf);
-    let end = carry(inputs, demux, &mut line, &mut output, buf, found);
-    let upto = output.given();
-    let end_of_output = output.finish();
-    Written {
-        status: ending_of(end_of_output.state, end),
-        upto,
-        end: end_of_output,
-    }
-}
-
-// The outcome of a run whose output was written.
-fn outcome_of<S>(
-    demux: &Demuxer,
-    written: Written<S>,
-    mut ends: Items<SlaveEnd<S>>,
-    spare: Items<S>,
+    shelves: Vec<S>,
 ) -> Outcome<S>
-    requires place { 0 < ends.spare }
-    requires none { ends.items ≡ [] }
-    ensures status { result.status ≡ written.status }
-    ensures upto { result.upto ≡ written.upto }
-    ensures ends { result.ends.items ≡ written.end ∷ [] }
-    ensures spare { result.spare.items ≡ spare.items }
+    requires sixteen { length shelves.items ≡ 16 }
+    requires idle { All (λ s. (S.state s).writing ≡ false) shelves.items }
+    requires valid { IsValidPlan (plan_view plan.now) }
+    ensures comes { PlanComesTo S.state (asked_of (plan_view plan.now)) (I.state inputs.old) (I.state inputs.new) shelves.items result }
+    ensures sound { ReadsAsked (asked_of (plan_view plan.now)) (I.state inputs.old) (I.state inputs.new) }
 {
-    ends.push(written.end);
-    Outcome {
-        status: written.status,
-        tags: demux.tags(),
-        upto: written.upto,
-        ends,
-        spare,
-        discards: demux.discards(),
+    if !are_built(plan.slaves.as_slice()) {
+        return nothing(alloc, not_built(), shelves);
+    }
+    match &plan.source {
+        Source::Named(name) => run_named(alloc, plan, name.as_str(), inputs, shelves),
+        Source::Generated(_) => nothing(alloc, not_built(), shelves),
     }
 }
 
-// Makes an output of an input whose streams were found, and writes it.
+// How a run ends whose plan needs what doesn't stand yet.
+fn not_built() -> Status
+    ensures { result ≡ Status.Words unbuilt }
+{
+    Status::Words(WordFault {
+        kind: WordKind::NotBuilt,
+        word: 0,
+    })
+}
+
+// How many bytes are taken at most.
+fn most_bytes(plan: &Plan) -> u64
+    ensures { result ≡ clamped plan.now.max_bytes }
+{
+    plan.max_bytes.min(MOST_BYTES).max(FEWEST_BYTES)
+}
+
+// Runs a plan over the input of that name.
+fn run_named<I: Inputs, S: Shelf + Drop>(
+    alloc: Global,
+    plan: &Plan,
+    name: &str,
+    inputs: &mut I,
+    shelves: Vec<S>,
+) -> Outcome<S>
+    requires sixteen { length shelves.items ≡ 16 }
+    requires idle { All (λ s. (S.state s).writing ≡ false) shelves.items }
+    requires valid { IsValidPlan (plan_view plan.now) }
+    requires built { are_built (plan_view plan.now).slaves ≡ true }
+    ensures comes { ComesTo S.state (asked_with name.now (plan_view plan.now)) (I.state inputs.old) (I.state inputs.new) shelves.items result }
+    ensures sound { (I.state inputs.old).sound_at name.now ≡ true → (I.state inputs.new).faults ≡ (I.state inputs.old).faults }
+{
+    let mut buf = match buffer(alloc, PIECE) {
+        Ok(buf) => buf,
+        Err(_) => return nothing(alloc, Status::NoMemory, shelves),
+    };
+    let mut demux = match Demuxer::new(alloc) {
+        Ok(demux) => demux,
+        Err(_) => return nothing(alloc, Status::NoMemory, shelves),
+    };
+    match inputs.open_input(name) {
+        Ok(()) => {}
+        Err(_) => return nothing(alloc, Status::InputFault, shelves),
+    }
+    match find_streams(inputs, &mut demux, &mut buf, most_bytes(plan)) {
+        Ok(found) => write_found(alloc, plan, inputs, &mut demux, &mut buf, found, shelves),
+        Err(unfound) => nothing(alloc, refused(unfound), shelves),
+    }
+}
+
+// How a run ends whose input has no streams.
+fn refused(unfound: Unfound) -> Status
+    ensures { result ≡ refused_by unfound }
+{
+    match unfound {
+        Unfound::NotFlv => Status::InputRefused(Refusal::NotFlv),
+        Unfound::BadOffset => Status::InputRefused(Refusal::BadOffset),
+        Unfound::NoStreams => Status::InputRefused(Refusal::NoStreams),
+        Unfound::InputFault => Status::InputFault,
+        Unfound::NoMemory => Status::NoMemory,
+    }
+}
+
+// How a run ends whose outputs could not be made.
+fn unmade(fault: TeeFault) -> Status
+    ensures { result ≡ unmade_by fault }
+{
+    match fault {
+        TeeFault::NoneSelected { slave } => Status::InputRefused(Refusal::NoneSelected(slave)),
+        TeeFault::NoMemory => Status::NoMemory,
+    }
+}
+
+// Makes the outputs of an input whose streams were found, and hands over its packets.
 fn write_found<I: Inputs, S: Shelf + Drop>(
     alloc: Global,
-    plan: &Plan<'_>,
+    plan: &Plan,
     inputs: &mut I,
     demux: &mut Demuxer,
     buf: &mut [u8],
@@ -351,29 +261,74 @@ fn write_found<I: Inputs, S: Shelf + Drop>(
 ) -> Outcome<S>
     requires room { 0 < length buf.old }
     requires small { length buf.old ≤ 65536 }
-    requires some { 0 < length shelves.items }
+    requires sixteen { length shelves.items ≡ 16 }
     requires idle { All (λ s. (S.state s).writing ≡ false) shelves.items }
-    requires found { (start : InputState) × FoundIn found max_bytes start (I.state inputs.old) demux.old.core.reader.ended (told demux.old) (λ b done. HasDealt b done demux.old) }
+    requires valid { IsValidPlan (plan_view plan.now) }
+    requires built { are_built (plan_view plan.now).slaves ≡ true }
+    requires found { (start : InputState) × FoundIn found (clamped plan.now.max_bytes) start (I.state inputs.old) demux.old.core.reader.ended (told demux.old) (λ b done. HasDealt b done demux.old) }
     ensures sound { StaysSound (I.state inputs.old) (I.state inputs.new) }
-    ensures comes { (old start : InputState) → Opened plan.now.source.now old start → start.faults ≤ (I.state inputs.old).faults
-        → FoundIn found max_bytes start (I.state inputs.old) demux.old.core.reader.ended (told demux.old) (λ b done. HasDealt b done demux.old)
-        → ComesTo S.state (asked_by plan.now) old (I.state inputs.new) shelves.items result }
+    ensures comes { (name : List ℕ) (old start : InputState) → Opened name old start → start.faults ≤ (I.state inputs.old).faults
+        → FoundIn found (clamped plan.now.max_bytes) start (I.state inputs.old) demux.old.core.reader.ended (told demux.old) (λ b done. HasDealt b done demux.old)
+        → ComesTo S.state (asked_with name (plan_view plan.now)) old (I.state inputs.new) shelves.items result }
 {
-    let made = match demux.streams() {
-        Some(infos) => make(alloc, infos),
+    let infos = match demux.streams() {
+        Some(infos) => infos,
         None => unreachable!(),
     };
-    let made = match made {
-        Ok(made) => made,
-        Err(unmade) => return nothing(alloc, unmade_status(unmade), shelves),
-    };
-    let mut ends = Items::new(alloc);
-    match ends.reserve(1) {
-        Ok(()) => {}
+    let line = match Interleaver::new(alloc, infos.len() as u32, plan.delta_us) {
+        Ok(line) => line,
         Err(_) => return nothing(alloc, Status::NoMemory, shelves),
+    };
+    match Tee::new(alloc, plan, infos, demux.script(), shelves) {
+        Ok(tee) => write_made(plan, inputs, demux, line, tee, buf, found),
+        Err(refused) => nothing(alloc, unmade(refused.fault), refused.shelves),
     }
-    let mut spare = Items::from_vec(shelves);
-    let shelf = spare.take_first();
-    let written = write_made(plan, inputs, demux, made, buf, found, shelf);
-    outcome_of(demux, written, ends, spare)
+}
+
+// Hands over the packets of an input to outputs that were made, and ends them.
+fn write_made<I: Inputs, S: Shelf + Drop>(
+    plan: &Plan,
+    inputs: &mut I,
+    demux: &mut Demuxer,
+    line: Interleaver,
+    tee: Tee<S>,
+    buf: &mut [u8],
+    found: Found,
+) -> Outcome<S>
+    requires room { 0 < length buf.old }
+    requires small { length buf.old ≤ 65536 }
+    requires valid { IsValidPlan (plan_view plan.now) }
+    requires made { (start : InputState) × (seats : List Seat) × (w : FoundIn found (clamped plan.now.max_bytes) start (I.state inputs.old) demux.old.core.reader.ended (told demux.old) (λ b done. HasDealt b done demux.old))
+        × IsMade S.state (plan_view plan.now) w.bytes line tee seats }
+    ensures sound { StaysSound (I.state inputs.old) (I.state inputs.new) }
+    ensures written { (name : List ℕ) (old start : InputState) (shelves : List S) (seats : List Seat) → Opened name old start → start.faults ≤ (I.state inputs.old).faults
+        → (w : FoundIn found (clamped plan.now.max_bytes) start (I.state inputs.old) demux.old.core.reader.ended (told demux.old) (λ b done. HasDealt b done demux.old))
+        → IsMade S.state (plan_view plan.now) w.bytes line tee seats
+        → AreSeats S.state (streams (reading_of w.bytes).tags) (script (reading_of w.bytes).tags) (plan_view plan.now).slaves shelves seats (spare_of tee)
+        → first_without (streams (reading_of w.bytes).tags) (plan_view plan.now).slaves ≡ None
+        → IsWritten S.state (asked_with name (plan_view plan.now)) old (I.state inputs.new) shelves result }
+{
+    let mut line = line;
+    let mut tee = tee;
+    let spare = tee.take_spare();
+    let mut handover = Handover { tee, given: 0 };
+    let end = carry(inputs, demux, &mut line, &mut handover, buf, found);
+    let Handover { tee, given } = handover;
+    let TeeEnd {
+        ends,
+        spare: _,
+        short: _,
+    } = tee.finish();
+    no_fault_no_loss();
+    ends_meet_accounts();
+    let failed = failed_slave(plan.slaves.as_slice(), ends.as_slice());
+    let wanted = any_want(ends.as_slice());
+    Outcome {
+        status: status_of(end, failed, wanted),
+        tags: demux.tags(),
+        upto: given,
+        ends,
+        spare,
+        discards: demux.discards(),
+    }
 }

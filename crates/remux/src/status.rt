@@ -2,7 +2,7 @@
 ghost use Rattle.std.specs.Prelude.{◌≡◌};
 ghost use Rattle.remux.specs.Report.{number_of};
 
-use crate::words::WordFault;
+use options::WordFault;
 
 /// How a run ends. The number of each is the status that the process ends with.
 #[derive(Clone, Copy, Debug, PartialEq, Eq)]

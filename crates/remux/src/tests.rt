@@ -64,24 +64,40 @@ const OTHER: [u8; 16] = [
     0xFF, 0xF1, 0x50, 0x80, 0x01, 0x1F, 0xFC, 0x21, 0xFF, 0xF1, 0x4C, 0x80, 0x01, 0x1F, 0xFC, 0x22,
 ];
 
-fn shelves(alloc: Global) -> Result<Vec<MemShelf>, Fail>
+// A shelf that never fails, or one that fails at every call.
+fn shelf(alloc: Global, dead: bool) -> MemShelf
+    ensures { (⟦<MemShelf as Shelf>⟧.state result).writing ≡ false }
+{
+    if dead {
+        MemShelf::dead(alloc)
+    } else {
+        MemShelf::new(alloc)
+    }
+}
+
+// Shelves of which the first may be dead.
+fn shelves(alloc: Global, first_dead: bool) -> Result<Vec<MemShelf>, Fail>
     ensures count { IfOk result (λ v. length v.items ≡ 16) }
     ensures idle { IfOk result (λ v. All (λ s. (⟦<MemShelf as Shelf>⟧.state s).writing ≡ false) v.items) }
 {
     let mut shelves = Vec::new(alloc);
+    let mut dead = first_dead;
     for _ in 0..SHELVES {
-        shelves.push(MemShelf::new(alloc))?;
+        shelves.push(shelf(alloc, dead))?;
+        dead = false;
     }
     Ok(shelves)
 }
 
-fn words(alloc: Global) -> Result<Vec<String>, Fail> {
-    let mut words = Vec::new(alloc);
-    for word in ["-i", "in.flv", "-f", "adts", "out.aac"] {
-        words.push(String::from_str(alloc, word)?)?;
+fn strings(alloc: Global, words: &[&str]) -> Result<Vec<String>, Fail> {
+    let mut strings = Vec::new(alloc);
+    for word in words {
+        strings.push(String::from_str(alloc, word)?)?;
     }
-    Ok(words)
+    Ok(strings)
 }
+
+const ADTS: [&str; 5] = ["-i", "in.flv", "-f", "adts", "out.aac"];
 
 // What a run came to.
 #[derive(Drop)]
@@ -89,43 +105,73 @@ struct Ran {
     status: Status,
     tags: u64,
     upto: u64,
-    /// What it wrote, if it made a file.
-    written: Option<Vec<u8>>,
+    report: Vec<u8>,
+    /// The first file of each output, where it made one.
+    files: Vec<Vec<u8>>,
 }
 
-// Runs on this text, which is read in pieces of at most so many bytes.
-fn run_on(alloc: Global, text: &[u8], most: u32) -> Result<Ran, Fail>
-    requires { 0 < most }
+fn copied(alloc: Global, bytes: &[u8]) -> Result<Vec<u8>, Fail> {
+    let mut copy = Vec::new(alloc);
+    copy.extend_from_slice(bytes)?;
+    Ok(copy)
+}
+
+// Runs the words on this text, which is read in pieces of at most so many bytes, and on these shelves.
+fn run_over(
+    alloc: Global,
+    words: &[&str],
+    text: &[u8],
+    most: u32,
+    shelves: Vec<MemShelf>,
+) -> Result<Ran, Fail>
+    requires some { 0 < most }
+    requires sixteen { length shelves.items ≡ 16 }
+    requires idle { All (λ s. (⟦<MemShelf as Shelf>⟧.state s).writing ≡ false) shelves.items }
 {
-    let mut bytes = Vec::new(alloc);
-    bytes.extend_from_slice(text)?;
-    let files = vec![in alloc; (String::from_str(alloc, "in.flv")?, bytes)]?;
+    let files = vec![in alloc; (String::from_str(alloc, "in.flv")?, copied(alloc, text)?)]?;
     let mut inputs = MemInputs::new(files, Vec::new(alloc), most);
     let mut out = MemSink::new(Vec::new(alloc));
-    let words = words(alloc)?;
-    let outcome = run_direct(alloc, &words, &mut inputs, shelves(alloc)?, &mut out);
-    let mut written = None;
-    if let Some(end) = outcome.ends.as_slice().first() {
+    let words = strings(alloc, words)?;
+    let outcome = run_direct(alloc, &words, &mut inputs, shelves, &mut out);
+    let mut files = Vec::new(alloc);
+    for end in outcome.ends.as_slice() {
         if end.shelf.take_count() > 0 {
-            let mut bytes = Vec::new(alloc);
-            bytes.extend_from_slice(end.shelf.take_bytes(0))?;
-            written = Some(bytes);
+            files.push(copied(alloc, end.shelf.take_bytes(0))?)?;
         }
     }
     Ok(Ran {
         status: outcome.status,
         tags: outcome.tags,
         upto: outcome.upto,
-        written,
+        report: copied(alloc, out.bytes())?,
+        files,
     })
 }
+
+// The same on shelves that don't fail.
+fn run_on(alloc: Global, words: &[&str], text: &[u8], most: u32) -> Result<Ran, Fail>
+    requires { 0 < most }
+{
+    run_over(alloc, words, text, most, shelves(alloc, false)?)
+}
+
+const REPORT: &str = "\
+tags 2 packets 1
+discards script=0 unsupported=0 nostream=0 corrupt=0 command=0 seqend=0 repeat=0
+slave 0 closed written=1 refused=0 flushed=0 keywait=0 lost=0 after=0 nomem=0 sessions=1 bytes=8
+status 0 done
+";
 
 #[test]
 fn one_packet(rt: HostRuntime) -> Result<(), Fail> {
     for most in [1, 2, 13, 65536] {
-        let ran = run_on(rt.alloc(), &TEXT, most)?;
+        let ran = run_on(rt.alloc(), &ADTS, &TEXT, most)?;
         assert_eq!(&rt; ran.status, Status::Done);
-        assert_eq!(&rt; ran.written.as_deref(), Some(FRAME.as_slice()));
+        assert_eq!(&rt; ran.report.as_slice(), REPORT.as_bytes());
+        assert_eq!(&rt;
+            ran.files.first().map(|file| file.as_slice()),
+            Some(FRAME.as_slice())
+        );
     }
     Ok(())
 }
@@ -134,7 +180,7 @@ fn one_packet(rt: HostRuntime) -> Result<(), Fail> {
 #[test]
 fn prefixes(rt: HostRuntime) -> Result<(), Fail> {
     for count in 0..=TEXT.len() {
-        let ran = run_on(rt.alloc(), &TEXT[..count], 65536)?;
+        let ran = run_on(rt.alloc(), &ADTS, &TEXT[..count], 65536)?;
         let wanted = match count {
             0..=8 => Status::InputRefused(Refusal::NotFlv),
             9..=27 => Status::InputRefused(Refusal::NoStreams),
@@ -147,36 +193,111 @@ fn prefixes(rt: HostRuntime) -> Result<(), Fail> {
             28..=45 => Some(0),
             _ => Some(8),
         };
-        assert_eq!(&rt; ran.written.map(|bytes| bytes.len()), size);
+        assert_eq!(&rt; ran.files.first().map(|file| file.len()), size);
     }
     Ok(())
 }
 
+// Three outputs of one text: the FLV file is the text itself.
 #[test]
-fn several_streams(rt: HostRuntime) -> Result<(), Fail> {
+fn three_outputs(rt: HostRuntime) -> Result<(), Fail> {
+    let words = [
+        "-i",
+        "in.flv",
+        "-f",
+        "tee",
+        "[f=flv]o.flv|[f=mpegts]o.ts|[f=adts]o.aac",
+    ];
     for most in [1, 65536] {
-        let ran = run_on(rt.alloc(), &SAMPLE, most)?;
+        let ran = run_on(rt.alloc(), &words, &SAMPLE, most)?;
         assert_eq!(&rt; ran.status, Status::Done);
         assert_eq!(&rt; ran.tags, 8);
         assert_eq!(&rt; ran.upto, 4);
-        assert_eq!(&rt; ran.written.as_deref(), Some(TWICE.as_slice()));
+        match ran.files.as_slice() {
+            [flv, ts, aac] => {
+                assert_eq!(&rt; flv.as_slice(), SAMPLE.as_slice());
+                assert_eq!(&rt; ts.len(), 1128);
+                assert_eq!(&rt; aac.as_slice(), TWICE.as_slice());
+            }
+            _ => assert!(&rt; false),
+        }
     }
-    let ran = run_on(rt.alloc(), &CHANGED, 65536)?;
+    let ran = run_on(rt.alloc(), &ADTS, &CHANGED, 65536)?;
     assert_eq!(&rt; ran.status, Status::Done);
-    assert_eq!(&rt; ran.written.as_deref(), Some(OTHER.as_slice()));
+    assert_eq!(&rt;
+        ran.files.first().map(|file| file.as_slice()),
+        Some(OTHER.as_slice())
+    );
     Ok(())
 }
 
 #[test]
 fn refusals(rt: HostRuntime) -> Result<(), Fail> {
-    let ran = run_on(rt.alloc(), &NO_AUDIO, 65536)?;
+    let alloc = rt.alloc();
+    let ran = run_on(alloc, &ADTS, &NO_AUDIO, 65536)?;
     assert_eq!(&rt; ran.status, Status::InputRefused(Refusal::NoneSelected(0)));
-    assert_eq!(&rt; ran.written, None);
-    let ran = run_on(rt.alloc(), &[0x47, 0x40, 0x00], 65536)?;
+    assert_eq!(&rt; ran.files.len(), 0);
+    let ran = run_on(alloc, &ADTS, &[0x47, 0x40, 0x00], 65536)?;
     assert_eq!(&rt; ran.status, Status::InputRefused(Refusal::NotFlv));
-    assert_eq!(&rt; ran.written, None);
-    let ran = run_on(rt.alloc(), &[0x46, 0x4C, 0x56, 1, 4, 0, 0, 0, 8], 65536)?;
+    assert_eq!(&rt; ran.files.len(), 0);
+    let ran = run_on(alloc, &ADTS, &[0x46, 0x4C, 0x56, 1, 4, 0, 0, 0, 8], 65536)?;
     assert_eq!(&rt; ran.status, Status::InputRefused(Refusal::BadOffset));
-    assert_eq!(&rt; ran.written, None);
+    let ran = run_on(alloc, &[], &TEXT, 65536)?;
+    assert_eq!(&rt;
+        ran.report.as_slice(),
+        b"status 1 words fault=3 word=0\n".as_slice()
+    );
+    Ok(())
+}
+
+// As many bytes are taken as may be.
+#[test]
+fn limits(rt: HostRuntime) -> Result<(), Fail> {
+    let cases = [
+        ("40", Status::InputEnded(Ending::Limit), 1, Some(0)),
+        ("20", Status::InputRefused(Refusal::NoStreams), 0, None),
+        ("50", Status::InputEnded(Ending::Limit), 2, Some(8)),
+        ("51", Status::Done, 2, Some(8)),
+    ];
+    for (most, status, tags, size) in cases {
+        let words = [
+            "-i",
+            "in.flv",
+            "-max_input_bytes",
+            most,
+            "-f",
+            "adts",
+            "out.aac",
+        ];
+        let ran = run_on(rt.alloc(), &words, &TEXT, 65536)?;
+        assert_eq!(&rt; ran.status, status);
+        assert_eq!(&rt; ran.tags, tags);
+        assert_eq!(&rt; ran.files.first().map(|file| file.len()), size);
+    }
+    Ok(())
+}
+
+// An output that fails ends the run, or only itself.
+#[test]
+fn a_dead_output(rt: HostRuntime) -> Result<(), Fail> {
+    let alloc = rt.alloc();
+    let words = ["-i", "in.flv", "-f", "tee", "[f=flv]x.flv|[f=adts]y.aac"];
+    let ran = run_over(alloc, &words, &SAMPLE, 65536, shelves(alloc, true)?)?;
+    assert_eq!(&rt; ran.status, Status::SlaveFailed(0));
+    assert_eq!(&rt; ran.upto, 1);
+    let words = [
+        "-i",
+        "in.flv",
+        "-f",
+        "tee",
+        "[f=flv:onfail=ignore]x.flv|[f=adts]y.aac",
+    ];
+    let ran = run_over(alloc, &words, &SAMPLE, 65536, shelves(alloc, true)?)?;
+    assert_eq!(&rt; ran.status, Status::Done);
+    assert_eq!(&rt; ran.upto, 4);
+    assert_eq!(&rt;
+        ran.files.first().map(|file| file.as_slice()),
+        Some(TWICE.as_slice())
+    );
     Ok(())
 }

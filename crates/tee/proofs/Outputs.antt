@@ -1,5 +1,5 @@
 -- An output that gets one packet more.
-use Rattle.std.proofs.Common.{◌≡◌, ◌≤◌, ◌+◌, ℕ, List, [], ◌∷◌, ◌++◌, length, length-append, append-nil, Option, Some, None, refl, sym, ◌∙◌, ap, subst, arith}
+use Rattle.std.proofs.Common.{◌≡◌, ◌≤◌, ◌+◌, ℕ, List, [], ◌∷◌, ◌++◌, length, length-append, append-nil, Option, Some, None, refl, sym, ◌∙◌, ap, subst, arith, ◌<◌, Fits, w64}
 use Rattle.std.specs.Option.{option_and_then}
 use Rattle.std.specs.List.{filter_map}
 use Rattle.std.proofs.lemmas.List.Elements.{filter_map-append}
@@ -78,3 +78,7 @@ sits_same state infos given seat history q slave s e =
       goes_on = refl;
       stays_dead = λ d. d;
     }
+
+-- a count of packets may rise by one
+pub one_more : (n : ℕ) → n < 2305843009213693952 → Fits w64 (n + 1)
+one_more n h = omega arith

@@ -33,6 +33,7 @@ use rmx_edge::Shelf;
 use rmx_media::{Items, NoMemory, Packet, StreamInfo};
 use slave::SlaveEnd;
 use std::alloc::Global;
+use std::mem;
 
 /// Outputs that are fed one packet after another.
 #[derive(Drop)]
@@ -126,6 +127,16 @@ impl<S: Shelf> Tee<S> {
         )?;
         self.give(p, filtered.as_slice());
         Ok(self.count())
+    }
+
+    /// Takes the shelves that no output has; `finish` has none of them then.
+    pub fn take_spare(&mut self) -> Items<S>
+        ensures spare { result.items ≡ spare_of self.old }
+        ensures keeps { (seats : List Seat) (given : List Packet) → Keeps S.state self.old seats given → Keeps S.state self.new seats given }
+        ensures infos { infos_of self.new ≡ infos_of self.old }
+        ensures dead { (u : ℕ) → dead_in self.new u ≡ dead_in self.old u }
+    {
+        mem::replace(&mut self.spare, Items::new(self.alloc))
     }
 }
 

@@ -2,7 +2,7 @@ use Rattle.std.proofs.Common.{sym, subst, ap, ◌∙◌, List, length, ◌+◌, 
 use Rattle.std.specs.Prelude.{◌^◌}
 use Rattle.rmx_media.specs.declared.packet.Packet.{Packet}
 use Rattle.interleaver.specs.Queues.{Pending}
-use Rattle.remux.specs.Fed.{is_stop}
+use Rattle.tee.specs.Fed.{is_stop}
 use Rattle.remux.specs.Fit.{Each}
 use Rattle.remux.specs.Gave.{Flushed, FlushedSome}
 use Rattle.remux.proofs.Carrying.{carried, carried_last, pending_of, broken_flush, flush_ready}

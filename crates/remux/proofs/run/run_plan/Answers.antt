@@ -1,18 +1,19 @@
-use Rattle.std.proofs.Common.{subst, inl, refl}
-use Rattle.remux.specs.Outcome.{IsNothing}
-use Rattle.remux.proofs.Running.{opened, unopened, early_by, untold, nothing_early}
+use Rattle.std.proofs.Common.{ap, sym, ◌∙◌, true, false}
+use Rattle.options.specs.Words.{plan_view}
+use Rattle.options.specs.declared.words.Source.TheVariants.{Named}
+use Rattle.remux.proofs.Running.{asked_built, asked_unbuilt, built_said, comes_named, comes_unbuilt}
 use Rattle.remux.proofs.run.run_plan.Goals as goal
 
-pub returns-in-Err-open_input-clause-comes : goal.returns-in-Err-open_input-clause-comes
-returns-in-Err-open_input-clause-comes g c = nothing_early _ _ _ _ _ _ _ c.nothing-in-Err-open_input.ensures
-    (c.in-Err-open_input.ensures.opened.failed refl, inl (unopened c.args.plan.now.source.now c.in-Err-open_input.field-0 _ _ c.in-Err-open_input.ensures.opened))
+pub returns-then-not-are_built-clause-comes : goal.returns-then-not-are_built-clause-comes
+returns-then-not-are_built-clause-comes g c = comes_unbuilt g.S.Shelf.state (plan_view c.args.plan.now) _ _ _ _
+    (asked_unbuilt (plan_view c.args.plan.now) (built_said c.args.plan.now.slaves.items c.as_slice.result.now c.are_built.result false c.as_slice.ensures c.are_built.ensures c.if-not-are_built.true))
+    c.not_built.ensures c.nothing.ensures
 
-pub find_streams-requires-clause-unknown : goal.find_streams-requires-clause-unknown
-find_streams-requires-clause-unknown g c = untold c.in-Ok-new.demux c.in-Ok-new.ensures.open c.in-Ok-new.ensures.dealt
+pub run_named-requires-clause-built : goal.run_named-requires-clause-built
+run_named-requires-clause-built g c = built_said c.args.plan.now.slaves.items c.as_slice.result.now c.are_built.result true c.as_slice.ensures c.are_built.ensures c.if-not-are_built.false
 
-pub returns-in-Ok-find_streams-clause-comes : goal.returns-in-Ok-find_streams-clause-comes
-returns-in-Ok-find_streams-clause-comes g c = c.write_found.ensures.comes _ (g.I.Inputs.state c.open_input.new.self) (opened _ _ _ _ c.in-Ok-open_input.ensures.opened) c.in-Ok-find_streams.ensures.count c.in-Ok-find_streams.ensures.finding
-
-pub returns-clause-comes : goal.returns-clause-comes
-returns-clause-comes g c = nothing_early _ _ _ _ _ _ _ (subst (λ s. IsNothing s c.args.shelves.items c.nothing-in-Err-find_streams.result) c.refused.ensures c.nothing-in-Err-find_streams.ensures)
-    (early_by c.in-Err-find_streams.unfound _ _ (g.I.Inputs.state c.open_input.new.self) _ _ _ _ (opened _ _ _ _ c.in-Ok-open_input.ensures.opened) c.in-Err-find_streams.ensures.finding)
+pub returns-in-Named-clause-comes : goal.returns-in-Named-clause-comes
+returns-in-Named-clause-comes g c = comes_named g.S.Shelf.state (plan_view c.args.plan.now) c.as_str.result.now _ _ _ _
+    (asked_built (plan_view c.args.plan.now) c.as_str.result.now (c.in-Named.is ∙ ap Named (sym c.as_str.ensures))
+    (built_said c.args.plan.now.slaves.items c.as_slice.result.now c.are_built.result true c.as_slice.ensures c.are_built.ensures c.if-not-are_built.false))
+    c.run_named.ensures.comes

@@ -1,34 +1,51 @@
-use Rattle.std.proofs.Common.{ap, ◌∙◌, sym, subst, inr, ◌∷◌, List}
+use Rattle.std.proofs.Common.{List, ap, ◌∙◌, sym, refl, subst, inr, length}
 use Rattle.rmx_media.specs.declared.streams.StreamInfo.{StreamInfo}
-use Rattle.remux.specs.Outcome.{IsMade, IsNothing}
-use Rattle.remux.proofs.Running.{infos_found, some_infos, unmade_early, nothing_early, idle_first, counted}
+use Rattle.options.specs.Words.{plan_view}
+use Rattle.tee.specs.Seat.{first_without}
+use Rattle.remux.specs.Asked.{asked_with, clamped}
+use Rattle.remux.specs.Outcome.{IsNothing, unmade_by}
+use Rattle.remux.specs.Starting.{new_line}
+use Rattle.remux.specs.declared.status.Status.{Status}
+use Rattle.remux.proofs.Running.{aborts_by, all_built, infos_found, nothing_early, script_found, script_told, seats_found, some_infos, unmade_early}
 use Rattle.remux.proofs.run.write_found.Goals as goal
 
-pub make-made-requires-clause-some : goal.make-made-requires-clause-some
-make-made-requires-clause-some g c = let w = c.requires.found in some_infos c.args.found w.0 _ c.args.demux.now c.in-Some.infos.now w.1 c.in-Some.ensures.known.1
+pub new-requires-clause-some : goal.new-requires-clause-some
+new-requires-clause-some g c = let w = c.requires.found in some_infos (clamped c.args.plan.now.max_bytes) c.args.found w.0 _ c.args.demux.now c.in-Some.infos.now w.1 c.in-Some.ensures.known.1
 
-pub returns-in-Err-clause-comes : goal.returns-in-Err-clause-comes
-returns-in-Err-clause-comes g c = λ old start o le w. nothing_early _ _ _ _ _ _ _ (subst (λ s. IsNothing s c.args.shelves.items c.nothing.result) c.unmade_status.ensures c.nothing.ensures)
-    (unmade_early c.in-Err.unmade c.make-made.result c.args.found c.args.plan.now.source.now old start _ c.args.demux.now c.in-Some.infos.now c.in-Err.is c.make-made.ensures.none o w c.in-Some.ensures.known.1)
+pub new-requires-2-clause-built : goal.new-requires-2-clause-built
+new-requires-2-clause-built g c = all_built (plan_view c.args.plan.now).slaves c.requires.built
 
-pub write_made-written-requires-clause-idle : goal.write_made-written-requires-clause-idle
-write_made-written-requires-clause-idle g c =
-    idle_first g.S.Shelf.state c.args.shelves.items _ c.take_first-shelf.result (sym c.from_vec-spare.ensures ∙ c.take_first-shelf.ensures.items) c.requires.idle
-
-pub write_made-written-requires-clause-found : goal.write_made-written-requires-clause-found
-write_made-written-requires-clause-found g c =
+pub write_made-requires-clause-made : goal.write_made-requires-clause-made
+write_made-requires-clause-made g c =
     let w = c.requires.found in
-    (w.0, w.1, subst (λ (l : List StreamInfo). IsMade l c.in-Ok.made) (c.in-Some.ensures.known.1 ∙ infos_found c.args.found w.0 _ c.args.demux.now w.1) c.in-Ok.ensures.made)
+    let made = c.in-Ok-new.ensures.made in
+    let infos = c.in-Some.ensures.known.1 ∙ infos_found (clamped c.args.plan.now.max_bytes) c.args.found w.0 _ c.args.demux.now w.1 in (
+      w.0,
+      made.0,
+      w.1,
+      record {
+        keeps = made.2;
+        infos = c.in-Ok-new.ensures.infos ∙ infos;
+        line_is = c.in-Ok.ensures.empty ∙ ap (λ (l : List StreamInfo). new_line (length l) c.args.plan.now.delta_us) infos;
+        aborts_are = aborts_by g.S.Shelf.state _ _ _ _ _ _ made.1;
+      },
+    )
 
-pub returns-clause-comes : goal.returns-clause-comes
-returns-clause-comes g c = λ old start o le w.
-    let made = subst (λ (l : List StreamInfo). IsMade l c.in-Ok.made) (c.in-Some.ensures.known.1 ∙ infos_found c.args.found start _ c.args.demux.now w) c.in-Ok.ensures.made in
-    inr record {
-      first = c.take_first-shelf.result;
-      end = c.write_made-written.result.end;
-      shelves_are = sym c.from_vec-spare.ensures ∙ c.take_first-shelf.ensures.items ∙ ap (λ l. c.take_first-shelf.result ∷ l) (sym c.outcome_of.ensures.spare);
-      ends = c.outcome_of.ensures.ends;
-      written = counted _ _ _ _ _ _ _ _ _ _ c.outcome_of.ensures.status c.outcome_of.ensures.upto (c.write_made-written.ensures.written old start o le w made);
-      caused = c.write_made-written.ensures.caused;
-      sound = c.write_made-written.ensures.calm;
+pub returns-in-Ok-new-clause-comes : goal.returns-in-Ok-new-clause-comes
+returns-in-Ok-new-clause-comes g c = λ name old start o le w.
+    let made = c.in-Ok-new.ensures.made in
+    let infos = c.in-Some.ensures.known.1 ∙ infos_found (clamped c.args.plan.now.max_bytes) c.args.found start _ c.args.demux.now w in
+    inr (c.write_made.ensures.written name old start c.args.shelves.items made.0 o le w record {
+      keeps = made.2;
+      infos = c.in-Ok-new.ensures.infos ∙ infos;
+      line_is = c.in-Ok.ensures.empty ∙ ap (λ (l : List StreamInfo). new_line (length l) c.args.plan.now.delta_us) infos;
+      aborts_are = aborts_by g.S.Shelf.state _ _ _ _ _ _ made.1;
     }
+    (seats_found g.S.Shelf.state _ _ _ _ _ _ _ _ infos (script_told (λ body. body.now) c.script.result c.args.demux.now.shown.known c.args.demux.now.core.probe.script c.in-Some.ensures.known.0 c.script.ensures.script ∙ script_found (clamped c.args.plan.now.max_bytes) c.args.found start _ c.args.demux.now w) made.1)
+    (ap (λ (l : List StreamInfo). first_without l (plan_view c.args.plan.now).slaves) (sym infos) ∙ c.in-Ok-new.ensures.taken))
+
+pub returns-in-Err-new-clause-comes : goal.returns-in-Err-new-clause-comes
+returns-in-Err-new-clause-comes g c = λ name old start o le w.
+    nothing_early g.S.Shelf.state (unmade_by c.in-Err-new.refused.fault) (asked_with name (plan_view c.args.plan.now)) old _ c.args.shelves.items c.nothing-in-Err-new.result
+    (subst (λ (l : List _). IsNothing (unmade_by c.in-Err-new.refused.fault) l c.nothing-in-Err-new.result) c.in-Err-new.ensures.back (subst (λ (s : Status). IsNothing s c.in-Err-new.refused.shelves.items c.nothing-in-Err-new.result) c.unmade.ensures c.nothing-in-Err-new.ensures))
+    (unmade_early c.in-Err-new.refused.fault (clamped c.args.plan.now.max_bytes) c.args.found name (plan_view c.args.plan.now) old start _ c.args.demux.now c.in-Some.infos.now refl c.in-Err-new.ensures.none o w c.in-Some.ensures.known.1)

@@ -1,48 +1,57 @@
-use Rattle.std.proofs.Common.{ap, ◌∙◌, subst, sym, [], ◌∷◌}
+use Rattle.std.proofs.Common.{◌≡◌, ℕ, List, [], length, ap, ◌∙◌, sym, refl, arith}
+use Rattle.rmx_media.specs.declared.packet.Packet.{Packet}
 use Rattle.interleaver.specs.Queues.{Pending}
-use Rattle.remux.specs.declared.status.Status.{Status}
-use Rattle.remux.specs.Outcome.{EndsWritten, asked_by}
-use Rattle.remux.specs.Output.{view_of, Keeps, dead_in}
-use Rattle.remux.proofs.Running.{ready_by, kept_of, end_says, end_calm, end_caused, written}
+use Rattle.options.specs.Slave.{view}
+use Rattle.tee.specs.Keeps.{Keeps, infos_of, dead_in, spare_of}
+use Rattle.remux.specs.Asked.{clamped}
+use Rattle.remux.proofs.Endings.{as_many_ends, clamped_small, count_mapped}
+use Rattle.remux.proofs.Running.{ready_by, kept_of, wrote_ends}
 use Rattle.remux.proofs.run.write_made.Goals as goal
-
-pub begin-output-requires-clause-can : goal.begin-output-requires-clause-can
-begin-output-requires-clause-can g c = c.requires.found.2.can
 
 pub carry-end-requires-clause-ready : goal.carry-end-requires-clause-ready
 carry-end-requires-clause-ready g c =
-    let w = c.requires.found in
-    let r = ready_by c.args.found w.0 _ _ _ _ c.args.made _ _ w.1 w.2 c.begin-output.ensures.keeps c.begin-output.ensures.takes in
-    (w.1.streams, w.1.bytes, _, r.0, r.1)
+    let m = c.requires.made in
+    let kept = c.take_spare-spare.ensures.keeps m.1 [] m.3.keeps in
+    let r = ready_by (clamped c.args.plan.now.max_bytes) c.args.plan.now.delta_us c.args.found m.0 _ _ _ _ c.args.line (infos_of c.take_spare-spare.new.self) (λ (given : List Packet). Keeps g.S.Shelf.state c.take_spare-spare.new.self m.1 given × (0 ≡ length given)) m.2 (clamped_small c.args.plan.now.max_bytes) (c.take_spare-spare.ensures.infos ∙ m.3.infos) m.3.line_is (kept, refl) in
+    (m.2.streams, m.2.bytes, m.1, r.0, r.1)
 
-pub finish-end_of_output-requires : goal.finish-end_of_output-requires
-finish-end_of_output-requires g c =
-    let w = c.requires.found in
-    let r = ready_by c.args.found w.0 _ _ _ _ c.args.made _ _ w.1 w.2 c.begin-output.ensures.keeps c.begin-output.ensures.takes in
-    let k = kept_of c.carry-end.result _ _ _ _ _ _ _ _ _ (c.carry-end.ensures.carries w.1.streams w.1.bytes _ r.0) in
-    (_, k.0, k.1)
+pub finish-ends-requires : goal.finish-ends-requires
+finish-ends-requires g c =
+    let m = c.requires.made in
+    let kept = c.take_spare-spare.ensures.keeps m.1 [] m.3.keeps in
+    let r = ready_by (clamped c.args.plan.now.max_bytes) c.args.plan.now.delta_us c.args.found m.0 _ _ _ _ c.args.line (infos_of c.take_spare-spare.new.self) (λ (given : List Packet). Keeps g.S.Shelf.state c.take_spare-spare.new.self m.1 given × (0 ≡ length given)) m.2 (clamped_small c.args.plan.now.max_bytes) (c.take_spare-spare.ensures.infos ∙ m.3.infos) m.3.line_is (kept, refl) in
+    let k = kept_of c.carry-end.result _ _ _ _ _ _ _ _ _ (c.carry-end.ensures.carries m.2.streams m.2.bytes m.1 r.0) in
+    record { kept = (m.1, k.0, k.1.0) }
+
+pub failed_slave-failed-requires-clause-same : goal.failed_slave-failed-requires-clause-same
+failed_slave-failed-requires-clause-same g c =
+    let m = c.requires.made in
+    let kept = c.take_spare-spare.ensures.keeps m.1 [] m.3.keeps in
+    let r = ready_by (clamped c.args.plan.now.max_bytes) c.args.plan.now.delta_us c.args.found m.0 _ _ _ _ c.args.line (infos_of c.take_spare-spare.new.self) (λ (given : List Packet). Keeps g.S.Shelf.state c.take_spare-spare.new.self m.1 given × (0 ≡ length given)) m.2 (clamped_small c.args.plan.now.max_bytes) (c.take_spare-spare.ensures.infos ∙ m.3.infos) m.3.line_is (kept, refl) in
+    let k = kept_of c.carry-end.result _ _ _ _ _ _ _ _ _ (c.carry-end.ensures.carries m.2.streams m.2.bytes m.1 r.0) in
+    let e = c.finish-ends.ensures.ends m.1 k.0 k.1.0 in
+    let n = as_many_ends g.S.Shelf.state m.1 k.0 (dead_in c.carry-end.new.outputs.tee) c.finish-ends.result.ends.items c.args.plan.now.slaves.items e m.3.aborts_are in
+    ap length c.as_slice.ensures ∙ n ∙ sym (ap length c.as_slice-2.ensures)
+
+pub failed_slave-failed-requires-clause-few : goal.failed_slave-failed-requires-clause-few
+failed_slave-failed-requires-clause-few g c =
+    let m = c.requires.made in
+    let kept = c.take_spare-spare.ensures.keeps m.1 [] m.3.keeps in
+    let r = ready_by (clamped c.args.plan.now.max_bytes) c.args.plan.now.delta_us c.args.found m.0 _ _ _ _ c.args.line (infos_of c.take_spare-spare.new.self) (λ (given : List Packet). Keeps g.S.Shelf.state c.take_spare-spare.new.self m.1 given × (0 ≡ length given)) m.2 (clamped_small c.args.plan.now.max_bytes) (c.take_spare-spare.ensures.infos ∙ m.3.infos) m.3.line_is (kept, refl) in
+    let k = kept_of c.carry-end.result _ _ _ _ _ _ _ _ _ (c.carry-end.ensures.carries m.2.streams m.2.bytes m.1 r.0) in
+    let e = c.finish-ends.ensures.ends m.1 k.0 k.1.0 in
+    let n = as_many_ends g.S.Shelf.state m.1 k.0 (dead_in c.carry-end.new.outputs.tee) c.finish-ends.result.ends.items c.args.plan.now.slaves.items e m.3.aborts_are in
+    omega (arith, c.requires.valid.few, ap length c.as_slice-2.ensures, n, count_mapped view c.args.plan.now.slaves.items)
 
 pub returns-clause-written : goal.returns-clause-written
-returns-clause-written g c = λ old start o le w m.
-    let r = ready_by c.args.found start _ _ _ _ c.args.made _ _ w m c.begin-output.ensures.keeps c.begin-output.ensures.takes in
-    subst (λ (s : Status). EndsWritten s (asked_by c.args.plan.now) old (g.I.Inputs.state c.carry-end.new.inputs) (g.S.Shelf.state c.args.shelf) (g.S.Shelf.state c.finish-end_of_output.result.shelf) c.finish-end_of_output.result.state c.given-upto.result) (sym c.ending_of.ensures)
-    (written c.finish-end_of_output.result.state c.carry-end.result (asked_by c.args.plan.now) c.args.found c.args.made.stream m.info c.args.made.streams old start (g.I.Inputs.state c.args.inputs.now) (g.I.Inputs.state c.carry-end.new.inputs) _ _ _ _ (g.S.Shelf.state c.args.shelf) (g.S.Shelf.state c.finish-end_of_output.result.shelf) c.carry-end.new.line
-    (Keeps (view_of g.S.Shelf.state c.carry-end.new.outputs) (record { name = c.args.plan.now.target.now; streams = c.args.made.streams; stream = c.args.made.stream; shelf = g.S.Shelf.state c.args.shelf } ∷ [])) (λ u. dead_in c.carry-end.new.outputs.condition u) c.given-upto.result
-    o le w c.carry-end.ensures.still (c.carry-end.ensures.same.0 ∙ r.0.count) (c.carry-end.ensures.same.1 ∙ ap (λ (v : Pending). v.delta) m.line) m.audio
-    (λ given k. end_says _ _ given (view_of g.S.Shelf.state c.carry-end.new.outputs) _ _ c.finish-end_of_output.ensures.ends c.given-upto.ensures k)
-    (λ u h. c.finish-end_of_output.ensures.dead u h)
-    (c.carry-end.ensures.carries w.streams w.bytes _ r.0))
-
-pub returns-clause-calm : goal.returns-clause-calm
-returns-clause-calm g c =
-    let w = c.requires.found in
-    let r = ready_by c.args.found w.0 _ _ _ _ c.args.made _ _ w.1 w.2 c.begin-output.ensures.keeps c.begin-output.ensures.takes in
-    let k = kept_of c.carry-end.result _ _ _ _ _ _ _ _ _ (c.carry-end.ensures.carries w.1.streams w.1.bytes _ r.0) in
-    end_calm c.finish-end_of_output.result.state (record { name = c.args.plan.now.target.now; streams = c.args.made.streams; stream = c.args.made.stream; shelf = g.S.Shelf.state c.args.shelf }) k.0 (view_of g.S.Shelf.state c.carry-end.new.outputs) (g.S.Shelf.state c.finish-end_of_output.result.shelf) c.finish-end_of_output.ensures.sound k.1
-
-pub returns-clause-caused : goal.returns-clause-caused
-returns-clause-caused g c =
-    let w = c.requires.found in
-    let r = ready_by c.args.found w.0 _ _ _ _ c.args.made _ _ w.1 w.2 c.begin-output.ensures.keeps c.begin-output.ensures.takes in
-    let k = kept_of c.carry-end.result _ _ _ _ _ _ _ _ _ (c.carry-end.ensures.carries w.1.streams w.1.bytes _ r.0) in
-    end_caused c.finish-end_of_output.result.state (record { name = c.args.plan.now.target.now; streams = c.args.made.streams; stream = c.args.made.stream; shelf = g.S.Shelf.state c.args.shelf }) k.0 (view_of g.S.Shelf.state c.carry-end.new.outputs) (g.S.Shelf.state c.finish-end_of_output.result.shelf) c.finish-end_of_output.ensures.ends k.1
+returns-clause-written g c = λ name old start shelves seats op le w m seated first.
+    let kept = c.take_spare-spare.ensures.keeps seats [] m.keeps in
+    let r = ready_by (clamped c.args.plan.now.max_bytes) c.args.plan.now.delta_us c.args.found start _ _ _ _ c.args.line (infos_of c.take_spare-spare.new.self) (λ (given : List Packet). Keeps g.S.Shelf.state c.take_spare-spare.new.self seats given × (0 ≡ length given)) w (clamped_small c.args.plan.now.max_bytes) (c.take_spare-spare.ensures.infos ∙ m.infos) m.line_is (kept, refl) in
+    wrote_ends g.S.Shelf.state c.args.plan.now name c.args.found old start (g.I.Inputs.state c.args.inputs.now) (g.I.Inputs.state c.carry-end.new.inputs) _ _ _ c.carry-end.new.demux c.carry-end.result c.carry-end.new.line shelves seats
+    (λ (given : List Packet). Keeps g.S.Shelf.state c.carry-end.new.outputs.tee seats given × (c.carry-end.new.outputs.given ≡ length given)) (λ (u : ℕ). dead_in c.carry-end.new.outputs.tee u) (spare_of c.args.tee) c.take_spare-spare.result.items c.finish-ends.result.ends.items c.as_slice.result.now c.as_slice-2.result.now c.as_slice-3.result.now c.failed_slave-failed.result c.any_want-wanted.result _
+    op le w c.carry-end.ensures.still (c.carry-end.ensures.same.0 ∙ r.0.count) (c.carry-end.ensures.same.1 ∙ ap (λ (v : Pending). v.delta) m.line_is)
+    (sym c.take_spare-spare.ensures.spare) m.aborts_are c.no_fault_no_loss.ensures c.ends_meet_accounts.ensures
+    (λ given k. (k.1, c.finish-ends.ensures.ends seats given k.0, λ u d. c.finish-ends.ensures.failed u d seats given k.0))
+    c.as_slice.ensures c.as_slice-2.ensures c.as_slice-3.ensures c.failed_slave-failed.ensures c.any_want-wanted.ensures
+    c.status_of.ensures refl refl c.tags.ensures c.discards.ensures
+    seated first (c.carry-end.ensures.carries w.streams w.bytes seats r.0)
