@@ -268,6 +268,13 @@ impl FifoState {
         matches!(self.mode, Mode::Dead(_))
     }
 
+    /// How many packets may wait for the output.
+    pub fn queue_size(&self) -> u32
+        ensures { (o : FifoOptions) (h : History) (hand : Option (ℕ × PacketFacts)) → Shows o h hand self.now → result ≡ o.queue_size }
+    {
+        self.options.queue_size
+    }
+
     /// The session that is open, or is to be opened for the packet in hand.
     pub fn session(&self) -> u64
         ensures number { result ≡ session_in self.now }

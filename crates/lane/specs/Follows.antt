@@ -1,5 +1,5 @@
 -- Which message may follow those before it, and the order of a giver's offers.
-use Rattle.std.specs.Prelude.{ℕ, ◌+◌, ◌<◌, ◌≤◌, List, [], ◌∷◌, length, All}
+use Rattle.std.specs.Prelude.{ℕ, ◌+◌, ◌^◌, ◌<◌, ◌≤◌, List, [], ◌∷◌, length, All}
 use Rattle.rmx_media.specs.Fits.{Fits}
 use Rattle.lane_core.specs.Machine.{Event, offer, take, see, close, fail}
 use Rattle.lane.specs.declared.msg.Msg.{Msg}
@@ -14,9 +14,9 @@ size_of m = length m.packet.payload
 abbrev pub measure : Measure Msg Purpose
 measure = record { size = size_of; limit = λ k. k.limit }
 
--- its packet fits what the lane is for, and its index is above theirs
+-- its packet fits what the lane is for, and its index is above theirs and leaves room for many more
 abbrev pub MayFollow : Purpose → List Msg → Msg → Type 0
-MayFollow k before m = All (λ (y : Msg). y.index < m.index) before × Fits k.format k.streams.value m.packet
+MayFollow k before m = All (λ (y : Msg). y.index < m.index) before × Fits k.format k.streams.value m.packet × (m.index < 2 ^ 61)
 
 abbrev pub index_after : Event Msg → ℕ → ℕ
 index_after (offer x) n = x.index + 1

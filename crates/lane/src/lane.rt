@@ -121,6 +121,7 @@ impl Lane {
         requires open { giver.old.closed ≡ false }
         requires few { (length giver.old.given < 2 ^ 61) × (length giver.old.refusals < 2 ^ 61) }
         requires above { next_index giver.old.past ≤ msg.index }
+        requires low { msg.index < 2 ^ 61 }
         requires fits { Fits giver.old.about.format giver.old.about.streams.value msg.packet }
         ensures { IsOffered self.now.cap giver.old giver.new msg result }
     {
@@ -165,6 +166,7 @@ impl Lane {
         requires open { giver.old.closed ≡ false }
         requires few { length giver.old.given < 2 ^ 61 }
         requires above { next_index giver.old.past ≤ msg.index }
+        requires low { msg.index < 2 ^ 61 }
         requires fits { Fits giver.old.about.format giver.old.about.streams.value msg.packet }
         ensures { MatchOption result (IsGiven self.now.cap giver.old giver.new msg) (λ back. (back ≡ msg) × Sees giver.old giver.new × (giver.new ≡ record giver.old { seen = giver.new.seen })) }
     {
@@ -195,6 +197,7 @@ impl Lane {
         requires open { giver.old.closed ≡ false }
         requires few { length giver.old.given < 2 ^ 61 }
         requires above { next_index giver.old.past ≤ msg.index }
+        requires low { msg.index < 2 ^ 61 }
         requires fits { Fits giver.old.about.format giver.old.about.streams.value msg.packet }
         ensures { IsGiven self.now.cap giver.old giver.new msg }
     {

@@ -78,6 +78,7 @@ fn offer(lane: &Lane, giver: &mut Giver, index: u64, payload: &'static [u8]) -> 
     requires open { giver.old.closed ≡ false }
     requires few { (length giver.old.given < 2 ^ 60) × (length giver.old.refusals < 2 ^ 60) }
     requires above { next_index giver.old.past ≤ index }
+    requires low { index < 2 ^ 61 }
     requires size { length payload.now ≤ 32 }
     ensures same { (giver.new.ring ≡ giver.old.ring) × (giver.new.about ≡ giver.old.about) × (giver.new.closed ≡ giver.old.closed) }
     ensures few { (length giver.new.given ≤ length giver.old.given + 1) × (length giver.new.refusals ≤ length giver.old.refusals + 1) }

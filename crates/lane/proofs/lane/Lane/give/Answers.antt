@@ -55,7 +55,7 @@ fetch_add-giver-inside-requires c = let h = c.giver.invariant in let s = c.giver
     let now = put_into _ _ _ _ _ _ _ (told.3 free) c.exchange.ensures.3 slot in let same = ap (λ e. length e.given) c.giver.view_is in let few = c.requires.few in
     let above : next_index g.past ≤ c.args.msg.index = subst (λ e. next_index e.past ≤ c.args.msg.index) (sym c.giver.view_is) c.requires.above in
     let below = all_more (λ (y : Msg). y.index < next_index g.past) (λ (y : Msg). y.index < c.args.msg.index) g.flow.given (λ y l. omega arith) h.offers.below in
-    (search rules, search rules, adds_tail _ _ _ _ _ _ _ _ _ _ _ _ _ _ c.args.msg now refl (omega arith) (below, subst (λ e. Fits e.about.format e.about.streams.value c.args.msg.packet) (sym c.giver.view_is) c.requires.fits))
+    (search rules, search rules, adds_tail _ _ _ _ _ _ _ _ _ _ _ _ _ _ c.args.msg now refl (omega arith) (below, subst (λ e. Fits e.about.format e.about.streams.value c.args.msg.packet) (sym c.giver.view_is) c.requires.fits, c.requires.low))
 
 pub invariant_of-giver-2 : goal.invariant_of-giver-2
 invariant_of-giver-2 c = let h = c.giver.invariant in let s = c.giver.inside in let k = s.about.value in let g = giver_in k s.seat.me.0.sight in let open' : g.closed ≡ false = ap (λ e. e.closed) c.giver.view_is ∙ c.requires.open in
