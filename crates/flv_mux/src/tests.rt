@@ -49,6 +49,22 @@ const BOTH: [u8; 213] = [
     0x00, 0x00, 0x00, 0x00, 0x10,
 ];
 
+// Video alone: packets at -40, -1 and 305419896 ms, and another configuration before the second.
+const PICTURES: [u8; 185] = [
+    0x46, 0x4C, 0x56, 0x01, 0x01, 0x00, 0x00, 0x00, 0x09, 0x00, 0x00, 0x00, 0x00, 0x09, 0x00, 0x00,
+    0x16, 0x00, 0x00, 0x00, 0x00, 0x00, 0x00, 0x00, 0x17, 0x00, 0x00, 0x00, 0x00, 0x01, 0x42, 0x00,
+    0x1E, 0xFF, 0xE1, 0x00, 0x04, 0x67, 0x42, 0x00, 0x1E, 0x01, 0x00, 0x02, 0x68, 0xCE, 0x00, 0x00,
+    0x00, 0x21, 0x09, 0x00, 0x00, 0x0B, 0xFF, 0xFF, 0xD8, 0xFF, 0x00, 0x00, 0x00, 0x17, 0x01, 0x00,
+    0x00, 0x28, 0x00, 0x00, 0x00, 0x02, 0x65, 0x88, 0x00, 0x00, 0x00, 0x16, 0x09, 0x00, 0x00, 0x16,
+    0xFF, 0xFF, 0xFF, 0xFF, 0x00, 0x00, 0x00, 0x17, 0x00, 0x00, 0x00, 0x00, 0x01, 0x42, 0x00, 0x1E,
+    0xFF, 0xE1, 0x00, 0x04, 0x67, 0x42, 0x00, 0x1E, 0x01, 0x00, 0x02, 0x68, 0xCF, 0x00, 0x00, 0x00,
+    0x21, 0x09, 0x00, 0x00, 0x0B, 0xFF, 0xFF, 0xFF, 0xFF, 0x00, 0x00, 0x00, 0x27, 0x01, 0x00, 0x00,
+    0x00, 0x00, 0x00, 0x00, 0x02, 0x41, 0x9A, 0x00, 0x00, 0x00, 0x16, 0x09, 0x00, 0x00, 0x0B, 0x34,
+    0x56, 0x78, 0x12, 0x00, 0x00, 0x00, 0x27, 0x01, 0x7F, 0xFF, 0xFF, 0x00, 0x00, 0x00, 0x02, 0x41,
+    0x9B, 0x00, 0x00, 0x00, 0x16, 0x09, 0x00, 0x00, 0x05, 0x34, 0x56, 0x78, 0x12, 0x00, 0x00, 0x00,
+    0x17, 0x02, 0x00, 0x00, 0x00, 0x00, 0x00, 0x00, 0x10,
+];
+
 // Audio whose configuration changes.
 const CHANGED: [u8; 87] = [
     0x46, 0x4C, 0x56, 0x01, 0x04, 0x00, 0x00, 0x00, 0x09, 0x00, 0x00, 0x00, 0x00, 0x08, 0x00, 0x00,
@@ -69,10 +85,15 @@ fn aac(alloc: Global, raw: [u8; 2]) -> Result<AacConfig, Fail>
     }
 }
 
-fn avc(alloc: Global) -> Result<AvcConfig, Fail>
+// The configuration of that version; its last byte is another from version 1 on.
+fn avc(alloc: Global, version: u64) -> Result<AvcConfig, Fail>
     ensures { IfOk result (λ c. IsReadAvc c × (c.length_size ≡ 4)) }
 {
-    let raw = Bytes::copy_from_slice(alloc, &SETS)?;
+    let mut sets = SETS;
+    if version > 0 {
+        sets[16] = 0xCF;
+    }
+    let raw = Bytes::copy_from_slice(alloc, &sets)?;
     match read_avc_config(raw) {
         Ok(config) if config.length_size == 4 => Ok(config),
         Ok(_) => Err(Fail::from("a length size of 4")),
@@ -96,7 +117,7 @@ fn audio_stream(alloc: Global) -> Result<MuxStream, Fail>
 fn video_stream(alloc: Global) -> Result<MuxStream, Fail>
     ensures { IfOk result (λ s. IsSound s.info × (s.stream ≡ 0) × (s.info.kind ≡ Video)) }
 {
-    let config = avc(alloc)?;
+    let config = avc(alloc, 0)?;
     Ok(MuxStream {
         stream: 0,
         info: StreamInfo {
@@ -113,6 +134,17 @@ fn alone(alloc: Global) -> Result<MuxStreams, Fail>
     let audio = audio_stream(alloc)?;
     Ok(MuxStreams {
         streams: Items::from_vec(vec![in alloc; audio]?),
+        script: None,
+    })
+}
+
+// The video stream 0 alone.
+fn pictures(alloc: Global) -> Result<MuxStreams, Fail>
+    ensures { IfOk result (λ m. CanMux m × (kind_in m.streams.items 0 ≡ Some Video)) }
+{
+    let video = video_stream(alloc)?;
+    Ok(MuxStreams {
+        streams: Items::from_vec(vec![in alloc; video]?),
         script: None,
     })
 }
@@ -148,12 +180,19 @@ fn audio(alloc: Global, time: i64, raw: [u8; 2], version: u64, byte: u8) -> Resu
     })
 }
 
-fn video(alloc: Global, dts: i64, pts: i64, key: bool, unit: [u8; 6]) -> Result<Packet, Fail>
+fn video(
+    alloc: Global,
+    dts: i64,
+    pts: i64,
+    key: bool,
+    version: u64,
+    unit: [u8; 6],
+) -> Result<Packet, Fail>
     requires timed { IsTimed dts pts }
     requires valid { is_valid 4 unit ≡ true }
     ensures { IfOk result (λ p. IsSample 0 Video p) }
 {
-    let config = avc(alloc)?;
+    let config = avc(alloc, version)?;
     let payload = Bytes::copy_from_slice(alloc, &unit)?;
     Ok(Packet {
         stream: 0,
@@ -163,17 +202,17 @@ fn video(alloc: Global, dts: i64, pts: i64, key: bool, unit: [u8; 6]) -> Result<
         form: Form::Native,
         payload,
         config: Config::Avc(config),
-        version: 0,
+        version,
     })
 }
 
 #[test]
 #[tactic(auto, using(crate::proofs::Samples::sample_fits), unfolding(rmx_media::specs::Units::units_of, rmx_media::specs::Units::parts_of))]
 fn a_file_of_both(rt: HostRuntime) -> Result<(), Fail> {
-    let first = video(rt.alloc(), 0, 0, true, [0, 0, 0, 2, 0x65, 0x88])?;
+    let first = video(rt.alloc(), 0, 0, true, 0, [0, 0, 0, 2, 0x65, 0x88])?;
     let sound = audio(rt.alloc(), 0, LOW, 0, 0x21)?;
     let later = audio(rt.alloc(), 23, LOW, 0, 0x21)?;
-    let second = video(rt.alloc(), 40, 80, false, [0, 0, 0, 2, 0x41, 0x9A])?;
+    let second = video(rt.alloc(), 40, 80, false, 0, [0, 0, 0, 2, 0x41, 0x9A])?;
     let mut mux = FlvMux::new(both(rt.alloc())?);
     let mut shelf = MemShelf::new(rt.alloc());
     let begun = mux.begin("o.flv", &mut shelf);
@@ -211,5 +250,37 @@ fn a_configuration_that_changes(rt: HostRuntime) -> Result<(), Fail> {
     assert_eq!(rt; ended, Ok(()));
     assert_eq!(rt; shelf.take_count(), 1);
     assert_eq!(rt; shelf.take_bytes(0), CHANGED.as_slice());
+    Ok(())
+}
+
+#[test]
+#[tactic(auto, using(crate::proofs::Samples::sample_fits), unfolding(rmx_media::specs::Units::units_of, rmx_media::specs::Units::parts_of))]
+fn pictures_before_zero(rt: HostRuntime) -> Result<(), Fail> {
+    let alloc = rt.alloc();
+    let late = 305_419_896;
+    let first = video(alloc, -40, 0, true, 0, [0, 0, 0, 2, 0x65, 0x88])?;
+    let second = video(alloc, -1, -1, false, 1, [0, 0, 0, 2, 0x41, 0x9A])?;
+    let third = video(
+        alloc,
+        late,
+        late + 8_388_607,
+        false,
+        1,
+        [0, 0, 0, 2, 0x41, 0x9B],
+    )?;
+    let mut mux = FlvMux::new(pictures(alloc)?);
+    let mut shelf = MemShelf::new(alloc);
+    let begun = mux.begin("o.flv", &mut shelf);
+    assert_eq!(rt; begun, Ok(()));
+    let put = mux.put(&first, &mut shelf);
+    assert_eq!(rt; put, Ok(()));
+    let put = mux.put(&second, &mut shelf);
+    assert_eq!(rt; put, Ok(()));
+    let put = mux.put(&third, &mut shelf);
+    assert_eq!(rt; put, Ok(()));
+    let ended = mux.end(&mut shelf);
+    assert_eq!(rt; ended, Ok(()));
+    assert_eq!(rt; shelf.take_count(), 1);
+    assert_eq!(rt; shelf.take_bytes(0), PICTURES.as_slice());
     Ok(())
 }

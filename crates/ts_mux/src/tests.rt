@@ -8,7 +8,6 @@ ghost use Rattle.rmx_media.specs.Streams.{CanMux, IsSound, kind_in};
 ghost use Rattle.ts_mux.specs.Sample.{AreTimes};
 
 use crate::TsMux;
-use aac_adts::adts_head;
 use avc_units::valid_units;
 use bytes::Bytes;
 use rmx_edge::{MemShelf, Shelf};
@@ -26,10 +25,15 @@ const AVC: [u8; 17] = [
 
 const AAC: [u8; 2] = [0x12, 0x10];
 
-fn avc(alloc: Global) -> Result<AvcConfig, Fail>
+// The configuration of that version; its last byte is another from version 1 on.
+fn avc(alloc: Global, version: u64) -> Result<AvcConfig, Fail>
     ensures { IfOk result (λ c. IsReadAvc c) }
 {
-    match read_avc_config(Bytes::copy_from_slice(alloc, &AVC)?) {
+    let mut raw = AVC;
+    if version > 0 {
+        raw[16] = 0xCF;
+    }
+    match read_avc_config(Bytes::copy_from_slice(alloc, &raw)?) {
         Ok(config) => Ok(config),
         Err(fault) => Err(Fail::from(fault)),
     }
@@ -49,7 +53,7 @@ fn video_stream(alloc: Global) -> Result<MuxStream, Fail>
 {
     let info = StreamInfo {
         kind: Kind::Video,
-        config: Config::Avc(avc(alloc)?),
+        config: Config::Avc(avc(alloc, 0)?),
     };
     Ok(MuxStream { stream: 0, info })
 }
@@ -83,6 +87,17 @@ fn alone(alloc: Global) -> Result<MuxStreams, Fail>
     let audio = audio_stream(alloc)?;
     Ok(MuxStreams {
         streams: Items::from_vec(vec![in alloc; audio]?),
+        script: None,
+    })
+}
+
+// The stream 0 alone, video.
+fn pictures(alloc: Global) -> Result<MuxStreams, Fail>
+    ensures { IfOk result CanMux }
+{
+    let video = video_stream(alloc)?;
+    Ok(MuxStreams {
+        streams: Items::from_vec(vec![in alloc; video]?),
         script: None,
     })
 }
@@ -124,7 +139,7 @@ fn config_of(alloc: Global, sample: &Sample) -> Result<Config, Fail>
 {
     match sample.kind {
         Kind::Video => {
-            let config = avc(alloc)?;
+            let config = avc(alloc, sample.version)?;
             if config.length_size != 4 || !valid_units(sample.payload, 4) {
                 return Err(Fail::new("no units"));
             }
@@ -298,6 +313,35 @@ const PROGRAM_MAP: [u8; 31] = [
     0x00, 0x1B, 0xE1, 0x00, 0xF0, 0x00, 0x0F, 0xE1, 0x01, 0xF0, 0x00, 0x2F, 0x44, 0xB9, 0x9B,
 ];
 
+const PICTURE_MAP: [u8; 26] = [
+    0x47, 0x50, 0x00, 0x10, 0x00, 0x02, 0xB0, 0x12, 0x00, 0x01, 0xC1, 0x00, 0x00, 0xE1, 0x00, 0xF0,
+    0x00, 0x1B, 0xE1, 0x00, 0xF0, 0x00, 0x15, 0xBD, 0x4D, 0x56,
+];
+
+const PROGRAMS_AGAIN: [u8; 21] = [
+    0x47, 0x40, 0x00, 0x11, 0x00, 0x00, 0xB0, 0x0D, 0x00, 0x01, 0xC1, 0x00, 0x00, 0x00, 0x01, 0xF0,
+    0x00, 0x2A, 0xB1, 0x04, 0xB2,
+];
+
+const PICTURE_MAP_AGAIN: [u8; 26] = [
+    0x47, 0x50, 0x00, 0x11, 0x00, 0x02, 0xB0, 0x12, 0x00, 0x01, 0xC1, 0x00, 0x00, 0xE1, 0x00, 0xF0,
+    0x00, 0x1B, 0xE1, 0x00, 0xF0, 0x00, 0x15, 0xBD, 0x4D, 0x56,
+];
+
+const CHANGED_FRONT: [u8; 12] = [
+    0x47, 0x41, 0x00, 0x31, 0x9D, 0x10, 0x00, 0x00, 0x82, 0x14, 0x7E, 0x00,
+];
+
+const CHANGED_END: [u8; 26] = [
+    0x00, 0x00, 0x01, 0xE0, 0x00, 0x00, 0x80, 0x80, 0x05, 0x21, 0x00, 0x07, 0xF4, 0x81, 0x00, 0x00,
+    0x00, 0x01, 0x09, 0xF0, 0x00, 0x00, 0x00, 0x01, 0x41, 0x9A,
+];
+
+const CHANGED_SETS: [u8; 26] = [
+    0x00, 0x00, 0x00, 0x01, 0x09, 0xF0, 0x00, 0x00, 0x00, 0x01, 0x67, 0x42, 0x00, 0x1E, 0x00, 0x00,
+    0x00, 0x01, 0x68, 0xCF, 0x00, 0x00, 0x00, 0x01, 0x65, 0x88,
+];
+
 const ALONE_FRONT: [u8; 12] = [
     0x47, 0x41, 0x00, 0x30, 0xA1, 0x50, 0xFF, 0xFF, 0x84, 0xF4, 0x7E, 0x00,
 ];
@@ -315,6 +359,10 @@ const DELIMITED: [u8; 26] = [
 const OWN_SETS: [u8; 19] = [
     0x00, 0x00, 0x00, 0x01, 0x09, 0xF0, 0x00, 0x00, 0x00, 0x01, 0x67, 0x42, 0x00, 0x00, 0x00, 0x00,
     0x01, 0x65, 0x88,
+];
+
+const LARGE_FRONT: [u8; 12] = [
+    0x47, 0x41, 0x00, 0x30, 0x07, 0x10, 0xFF, 0xFF, 0x85, 0x02, 0x7E, 0x00,
 ];
 
 const LARGE_HEAD: [u8; 24] = [
@@ -342,36 +390,100 @@ fn six_cells(rt: HostRuntime) -> Result<(), Fail> {
     Ok(())
 }
 
-// A payload of audio beside video, as it comes out of its cells: whether the head, the frame's head and the bytes are
-// there, and as many cells as they take.
-fn comes_out(alloc: Global, payload: &[u8]) -> Result<bool, Fail> {
-    let file = file_of(alloc, both(alloc)?, &[audio(0, 0, payload)])?;
-    let pes = carried(alloc, &file, 0x101)?;
-    let (head, frame) = pes.split_at_checked(14).ok_or("no head")?;
-    let (adts, bytes) = frame.split_at_checked(7).ok_or("no frame")?;
-    let size = u16::try_from(payload.len().min(400))?;
-    let [high, low] = (size + 15).to_be_bytes();
-    let first = [
-        0, 0, 1, 0xC0, high, low, 0x80, 0x80, 5, 0x21, 0, 7, 0xD8, 0x61,
-    ];
-    let cells = 2 + (usize::from(size) + 21).div_ceil(184);
-    Ok(
-        head == first.as_slice()
-            && adts == adts_head(&aac(alloc)?, u32::from(size)).as_slice()
-            && bytes == payload
-            && file.len() == 188 * cells,
-    )
+// The cells of the first packet of a stream. The first cell may have a field with the clock, and carries 176 bytes then;
+// every other carries 184. Where fewer are left than that, m of them, the field there is longer by m bytes, or has m.
+fn cells_of(alloc: Global, pid: u8, clock: &[u8], pes: &[u8]) -> Result<Vec<u8>, Fail> {
+    let mut cells = Vec::new(alloc);
+    let mut rest = pes;
+    let mut start = 0x41;
+    let mut counter = 0u8;
+    if !clock.is_empty() {
+        let size = pes.len().min(176);
+        let first = &pes[..size];
+        let field = u8::try_from(183usize.saturating_sub(size))?;
+        let mut front = Vec::from_slice(alloc, &[0x47, start, pid, 0x30, field])?;
+        front.extend_from_slice(clock)?;
+        add_cell(&mut cells, &front, first)?;
+        rest = &pes[size..];
+        start = 1;
+        counter = 1;
+    }
+    for bytes in rest.chunks(184) {
+        match 184usize.saturating_sub(bytes.len()) {
+            0 => add_cell(&mut cells, &[0x47, start, pid, 0x10 | counter], bytes)?,
+            1 => add_cell(&mut cells, &[0x47, start, pid, 0x30 | counter, 0], bytes)?,
+            missing => {
+                let field = u8::try_from(missing.saturating_sub(1))?;
+                let front = [0x47, start, pid, 0x30 | counter, field, 0];
+                add_cell(&mut cells, &front, bytes)?;
+            }
+        }
+        start = 1;
+        counter = counter.wrapping_add(1) & 0x0F;
+    }
+    Ok(cells)
 }
 
-// Payloads of every length come whole out of their cells, whatever is missing in the last one.
+// The cells of a packet of audio beside video at 0 ms, the first of its stream.
+fn audio_cells(alloc: Global, payload: &[u8]) -> Result<Vec<u8>, Fail> {
+    let frame = u16::try_from(payload.len().min(400))? + 7;
+    let [high, low] = (frame + 8).to_be_bytes();
+    let [eighths, rest] = (frame * 32).to_be_bytes();
+    let head = [
+        0, 0, 1, 0xC0, high, low, 0x80, 0x80, 5, 0x21, 0, 7, 0xD8, 0x61,
+    ];
+    let adts = [0xFF, 0xF1, 0x50, 0x80, eighths, rest | 0x1F, 0xFC];
+    let mut pes = Vec::from_slice(alloc, &head)?;
+    pes.extend_from_slice(&adts)?;
+    pes.extend_from_slice(payload)?;
+    cells_of(alloc, 1, &[], &pes)
+}
+
+// The cells of a video packet of one unit at 0 ms, the first of its stream, which carries the clock.
+fn video_cells(alloc: Global, unit: &[u8]) -> Result<Vec<u8>, Fail> {
+    let mut pes = Vec::from_slice(alloc, &V0_END[..20])?;
+    pes.extend_from_slice(&[0, 0, 0, 1])?;
+    pes.extend_from_slice(unit)?;
+    cells_of(alloc, 0, &[0x10, 0, 0, 0x7B, 0x0C, 0x7E, 0], &pes)
+}
+
+// Payloads of every length: the whole file, whatever is missing in its last cell.
 #[test]
 fn every_length(rt: HostRuntime) -> Result<(), Fail> {
     let alloc = rt.alloc();
     let bytes = alike(alloc, 400)?;
     for size in 1..401usize {
         let payload = bytes.get(..size).ok_or("too short")?;
-        let whole = comes_out(alloc, payload)?;
-        assert!(rt; whole, "{size}");
+        let mut cells = Vec::new(alloc);
+        add_cell(&mut cells, &PROGRAMS, &[])?;
+        add_cell(&mut cells, &PROGRAM_MAP, &[])?;
+        cells.extend_from_slice(&audio_cells(alloc, payload)?)?;
+        let file = file_of(alloc, both(alloc)?, &[audio(0, 0, payload)])?;
+        assert_eq!(rt; file, cells, "{size}");
+        let mut cells = Vec::new(alloc);
+        add_cell(&mut cells, &PROGRAMS, &[])?;
+        add_cell(&mut cells, &PICTURE_MAP, &[])?;
+        cells.extend_from_slice(&video_cells(alloc, payload)?)?;
+        let [high, low] = u16::try_from(size)?.to_be_bytes();
+        let mut native = Vec::from_slice(alloc, &[0, 0, high, low])?;
+        native.extend_from_slice(payload)?;
+        let file = file_of(alloc, pictures(alloc)?, &[video(0, 0, false, &native)])?;
+        assert_eq!(rt; file, cells, "{size}");
+    }
+    let fronts: [(usize, usize, &[u8]); 7] = [
+        (160, 376, &[0x47, 0x41, 1, 0x30, 2, 0, 0xFF, 0, 0, 1, 0xC0]),
+        (161, 376, &[0x47, 0x41, 1, 0x30, 1, 0, 0, 0, 1, 0xC0]),
+        (162, 376, &[0x47, 0x41, 1, 0x30, 0, 0, 0, 1, 0xC0]),
+        (163, 376, &[0x47, 0x41, 1, 0x10, 0, 0, 1, 0xC0]),
+        (164, 376, &[0x47, 0x41, 1, 0x10, 0, 0, 1, 0xC0]),
+        (164, 564, &[0x47, 1, 1, 0x31, 0xB6, 0, 0xFF, 0xFF]),
+        (164, 749, &[0xFF, 0xFF, 0x41]),
+    ];
+    for (size, at, front) in fronts {
+        let payload = bytes.get(..size).ok_or("too short")?;
+        let file = file_of(alloc, both(alloc)?, &[audio(0, 0, payload)])?;
+        let there = file.get(at..).ok_or("too short")?;
+        assert!(rt; there.starts_with(front), "{size}");
     }
     Ok(())
 }
@@ -398,6 +510,37 @@ fn audio_alone(rt: HostRuntime) -> Result<(), Fail> {
     assert_eq!(rt; file.get(376..564).ok_or("too short")?, first.as_slice());
     assert_eq!(rt; carried(alloc, &file, 0)?.len(), 3 * 184);
     assert_eq!(rt; carried(alloc, &file, 0x100)?.len(), 5 * 22);
+    Ok(())
+}
+
+// Video alone, whose configuration changes: the tables come again before the first packet of the new one, whose sets
+// are the new ones.
+#[test]
+fn video_alone(rt: HostRuntime) -> Result<(), Fail> {
+    let alloc = rt.alloc();
+    let first = video(0, 0, true, &[0, 0, 0, 2, 0x65, 0x88]);
+    let changed = Sample {
+        version: 1,
+        ..video(40, 40, false, &[0, 0, 0, 2, 0x41, 0x9A])
+    };
+    let mut cells = Vec::new(alloc);
+    add_cell(&mut cells, &PROGRAMS, &[])?;
+    add_cell(&mut cells, &PICTURE_MAP, &[])?;
+    add_cell(&mut cells, &V0_FRONT, &V0_END)?;
+    add_cell(&mut cells, &PROGRAMS_AGAIN, &[])?;
+    add_cell(&mut cells, &PICTURE_MAP_AGAIN, &[])?;
+    add_cell(&mut cells, &CHANGED_FRONT, &CHANGED_END)?;
+    assert_eq!(rt; file_of(alloc, pictures(alloc)?, &[first, changed])?, cells);
+    let key = Sample {
+        version: 1,
+        ..video(40, 40, true, &[0, 0, 0, 2, 0x65, 0x88])
+    };
+    let file = file_of(alloc, pictures(alloc)?, &[first, key])?;
+    let units = carried(alloc, &file, 0x100)?;
+    assert_eq!(rt;
+        units.get(54..).ok_or("too short")?,
+        CHANGED_SETS.as_slice()
+    );
     Ok(())
 }
 
@@ -432,6 +575,10 @@ fn a_large_packet(rt: HostRuntime) -> Result<(), Fail> {
     payload.extend_from_slice(&alike(alloc, 70_000)?)?;
     let time = 95_442_318;
     let file = file_of(alloc, both(alloc)?, &[video(time, time, false, &payload)])?;
+    assert_eq!(rt;
+        file.get(376..388).ok_or("too short")?,
+        LARGE_FRONT.as_slice()
+    );
     let pes = carried(alloc, &file, 0x100)?;
     assert_eq!(rt; pes.get(..24).ok_or("too short")?, LARGE_HEAD.as_slice());
     assert_eq!(rt; pes.len(), 70_024);
