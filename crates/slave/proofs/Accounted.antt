@@ -13,7 +13,7 @@ use Rattle.fifo_core.specs.declared.types.Fate.TheVariants as fate
 use Rattle.fifo_core.specs.History.{Begun, Tried, Fated, Want, History, fates_of, is_below, notes, since, wanted, mode_of, mode_is_dead, is_live, end_of}
 use Rattle.fifo_core.specs.State.{Rises}
 use Rattle.fifo_core.specs.Follows.{Turn, Comes, Flushes}
-use Rattle.fifo_core.specs.Causes.{Caused, Cause, TurnCause, TriedLast, PutFailed, HasTurn, OnlyTried}
+use Rattle.fifo_core.specs.Causes.{Caused, Cause, FlushCause, TurnCause, TriedLast, PutFailed, HasTurn, OnlyTried}
 use Rattle.fifo_core.proofs.Caused.{each_caused, dead_number, taken_live}
 use Rattle.rmx_edge.specs.Counted.{with_count}
 use Rattle.rmx_media.specs.declared.packet.Packet.{Packet}
@@ -22,11 +22,12 @@ use Rattle.slave.specs.declared.records.FaultAt.TheVariants.{Put}
 use Rattle.slave.specs.declared.records.FaultNote.{FaultNote}
 use Rattle.slave.specs.Origin.{Origin, facts_of, video_of}
 use Rattle.slave.specs.Runs.{expand}
-use Rattle.slave.specs.Table.{StandsAt, turns_from, Indexed, NotesTell}
+use Rattle.slave.specs.Table.{StandsAt, turns_from, NotesTell}
 use Rattle.slave.specs.End.{EndView, EndNotes, Ended}
-use Rattle.slave.specs.Accounts.{Has, HasPut, IsHit, IsWaiting, EndsMeetAccounts}
+use Rattle.slave.specs.Accounts.{Has, HasPut, IsHit, MayWait, MayBeLost, MayStand, EndsMeetAccounts}
+use Rattle.slave.proofs.Alive.{Alive, each_alive}
 use Rattle.slave.proofs.Faultless.{notes_rise}
-use Rattle.slave.proofs.Past.{in_turn, has_split, has_front, indexed_within, indexed_has, indexed_once, indexed_front, indexed_rises, written_has, has_written, noted, noted_tried, notes_count, note_at_fault, last_fault, get_front, same_number, number_same, test_cases}
+use Rattle.slave.proofs.Past.{in_turn, has_split, has_front, indexed_within, indexed_has, indexed_once, rises_within, indexed_rises, written_has, has_written, noted, noted_tried, notes_count, note_at_fault, last_fault, get_front, same_number, number_same, test_cases}
 
 module _ (o : FifoOptions) (ts : List Turn) where
   -- the note at which a packet was lost comes before
@@ -119,6 +120,7 @@ module _ (o : FifoOptions) (ts : List Turn) where
     pub turn : Turn
     pub has : HasTurn ts turn
     pub cause : TurnCause o past i turn f
+    pub alive : (v : ℕ) → f ≡ fate.Flushed v → mode_is_dead (mode_of o past) ≡ false
     pub caused : Caused o ts past
     pub within : (j : ℕ) (u : Fate) → Has (fates_of past) j u → Has (fates_of h) j u
     pub before : (j : ℕ) (u : Fate) → j < i → Has (fates_of h) j u → Has (fates_of past) j u
@@ -131,16 +133,17 @@ module _ (o : FifoOptions) (ts : List Turn) where
   told_tried s j facts answer.Fault h ns t = (t.0, t.1 ∷ [], t.5, t.2)
   told_tried s j facts answer.NoMemory h ns t = (ns, [], t, sym (append-nil ns))
 
-  found : (h : History) (i : ℕ) (f : Fate) → Caused o ts h → Indexed 0 (fates_of h) → Has (fates_of h) i f → Found h i f
-  found [] i f c k x = absurd x
-  found (Begun a ∷ h) i f c k x = absurd (let y : Has [] i f = subst (λ (g : History). Has (fates_of g) i f) c x in y)
-  found (Tried s j facts a ∷ h) i f c k x =
-      let d = found h i f c.1 k x in
+  pub found : (h : History) (n i : ℕ) (f : Fate) → Caused o ts h → Alive o h → Rises h n → Has (fates_of h) i f → Found h i f
+  found [] n i f c l r x = absurd x
+  found (Begun a ∷ h) n i f c l r x = absurd (let y : Has [] i f = subst (λ (g : History). Has (fates_of g) i f) c x in y)
+  found (Tried s j facts a ∷ h) n i f c l r x =
+      let d = found h n i f c.1 l r x in
       record {
         past = d.past;
         turn = d.turn;
         has = d.has;
         cause = d.cause;
+        alive = d.alive;
         caused = d.caused;
         within = d.within;
         before = d.before;
@@ -150,22 +153,22 @@ module _ (o : FifoOptions) (ts : List Turn) where
             let z = d.told y.0 y.2 in
             (z.0, z.1 ++ y.1, z.2, y.3 ∙ ap (λ (xs : List FaultNote). xs ++ y.1) z.3 ∙ append_assoc z.0 z.1 y.1));
       }
-  found (Want ∷ h) i f c k x =
-      let d = found h i f c k x in
-      record { past = d.past; turn = d.turn; has = d.has; cause = d.cause; caused = d.caused; within = d.within; before = d.before; later = d.later; told = d.told }
-  found (Fated j u ∷ h) i f c k x =
-      let order = indexed_front 0 (fates_of h) (j, u) k in
+  found (Want ∷ h) n i f c l r x =
+      let d = found h n i f c l r x in
+      record { past = d.past; turn = d.turn; has = d.has; cause = d.cause; alive = d.alive; caused = d.caused; within = d.within; before = d.before; later = d.later; told = d.told }
+  found (Fated j u ∷ h) n i f c l r x =
       elim (has_split (fates_of h) (j, u) i f x) [
-        | inl a ↦ (let d = found h i f c.1 order.0 a in
-            let bound = indexed_within 0 (fates_of h) i f order.0 a in
+        | inl a ↦ (let d = found h j i f c.1 l.1 r.1 a in
+            let bound = rises_within h j i f r.1 a in
             record {
               past = d.past;
               turn = d.turn;
               has = d.has;
               cause = d.cause;
+              alive = d.alive;
               caused = d.caused;
               within = λ q v y. has_front (fates_of h) (j, u) q v (d.within q v y);
-              before = λ q v lt y. elim (has_split (fates_of h) (j, u) q v y) [ inl b ↦ d.before q v lt b | inr e ↦ absurd (omega (arith, e.0, order.1, bound.1, lt)) ];
+              before = λ q v lt y. elim (has_split (fates_of h) (j, u) q v y) [ inl b ↦ d.before q v lt b | inr e ↦ absurd (omega (arith, e.0, bound, lt)) ];
               later = d.later;
               told = d.told;
             })
@@ -174,6 +177,7 @@ module _ (o : FifoOptions) (ts : List Turn) where
           turn = c.0.0;
           has = c.0.1;
           cause = subst (λ (y : Fate). TurnCause o h i c.0.0 y) b.1 (subst (λ (q : ℕ). TurnCause o h q c.0.0 u) b.0 c.0.2);
+          alive = λ v same. l.0 v (b.1 ∙ same);
           caused = c.1;
           within = λ q v y. has_front (fates_of h) (j, u) q v y;
           before = λ q v lt y. elim (has_split (fates_of h) (j, u) q v y) [ inl z ↦ z | inr e ↦ absurd (omega (arith, e.0, b.0, lt)) ];
@@ -206,16 +210,8 @@ no_flush out n [] i v h = h
 no_flush out n (p ∷ L) i v (inl e) = cc e
 no_flush out n (p ∷ L) i v (inr h) = no_flush out (n + 1) L i v h
 
-same_packet : {p q : Packet} → Some p ≡ Some q → p ≡ q
+pub same_packet : {p q : Packet} → Some p ≡ Some q → p ≡ q
 same_packet e = cc
-
--- the cause of a packet's fate
-packet_cause : (o : FifoOptions) (out : Origin) (L : List Packet) (past : History) (i : ℕ) (f : Fate) (t : Turn) → HasTurn (turns_from out 0 L) t → TurnCause o past i t f
-    → (p : Packet) × (slice_get L i ≡ Some p) × Cause o past i (facts_of out p) f
-packet_cause o out L past i f (Flushes j v) has cause = absurd (no_flush out 0 L j v has)
-packet_cause o out L past i f (Comes j facts) has cause =
-    let k = turn_packet out L j facts has in
-    (k.0, subst (λ (x : ℕ). slice_get L x ≡ Some k.0) cause.0 k.1, subst (λ (x : PacketFacts). Cause o past i x f) k.2 cause.1)
 
 put_noted : (past : History) (i : ℕ) (ms : List FaultNote) → PutFailed past i → NotesTell past ms → HasPut ms i
 put_noted [] i ms x t = absurd x
@@ -301,58 +297,88 @@ after_want o past i facts (fate.Lost v) w k = (let x : true ≡ false = sym w �
 after_want o past i facts (fate.AfterFailure v) w k = (let x : true ≡ false = sym w ∙ k.0 in absurd (cc x))
 after_want o past i facts fate.NoMemory w k = refl
 
+-- and none for a packet that is flushed
+turn_dead : (o : FifoOptions) (past : History) (i f : ℕ) (u : Fate) (t : Turn) → mode_of o past ≡ Dead f → mode_is_dead (mode_of o past) ≡ true
+    → (TriedLast past i answer.Fault → ⊥) → ((v : ℕ) → u ≡ fate.Flushed v → mode_is_dead (mode_of o past) ≡ false) → TurnCause o past i t u → (u ≡ fate.AfterFailure f) ⊎ (u ≡ fate.NoMemory)
+turn_dead o past i f u (Comes j facts) d dead untried alive k = after_dead o past i f facts u d dead untried k.1
+turn_dead o past i f (fate.Written s) (Flushes j n) d dead untried alive k = absurd k.1
+turn_dead o past i f (fate.Refused v) (Flushes j n) d dead untried alive k = absurd k.1
+turn_dead o past i f (fate.Flushed v) (Flushes j n) d dead untried alive k = (let x : true ≡ false = sym dead ∙ alive v refl in absurd (cc x))
+turn_dead o past i f fate.KeyWait (Flushes j n) d dead untried alive k = absurd k.1
+turn_dead o past i f (fate.Lost v) (Flushes j n) d dead untried alive k = absurd k.1
+turn_dead o past i f (fate.AfterFailure v) (Flushes j n) d dead untried alive k =
+    let x : Dead v ≡ Dead f = sym k.1.1 ∙ d in
+    let same : v ≡ f = cc in
+    inl (ap fate.AfterFailure same)
+turn_dead o past i f fate.NoMemory (Flushes j n) d dead untried alive k = inr refl
+
+turn_want : (o : FifoOptions) (past : History) (i : ℕ) (u : Fate) (t : Turn) → wanted past ≡ true → TurnCause o past i t u → u ≡ fate.NoMemory
+turn_want o past i u (Comes j facts) w k = after_want o past i facts u w k.1
+turn_want o past i (fate.Written s) (Flushes j n) w k = absurd k.1
+turn_want o past i (fate.Refused v) (Flushes j n) w k = absurd k.1
+turn_want o past i (fate.Flushed v) (Flushes j n) w k = (let x : true ≡ false = sym w ∙ k.1.0 in absurd (cc x))
+turn_want o past i fate.KeyWait (Flushes j n) w k = absurd k.1
+turn_want o past i (fate.Lost v) (Flushes j n) w k = absurd k.1
+turn_want o past i (fate.AfterFailure v) (Flushes j n) w k = (let x : true ≡ false = sym w ∙ k.1.0 in absurd (cc x))
+turn_want o past i fate.NoMemory (Flushes j n) w k = refl
+
+never_refused : (o : FifoOptions) (past : History) (i v : ℕ) (t : Turn) → TurnCause o past i t (fate.Refused v) → ⊥
+never_refused o past i v (Comes j facts) k = k.1
+never_refused o past i v (Flushes j n) k = k.1
+
 -- the end says that memory was wanted
-end_wanted : (o : FifoOptions) (h : History) (a : Option Answer) → wanted h ≡ true → is_some a ≡ is_live o h → end_of h a ≡ ends.NoMemory
+pub end_wanted : (o : FifoOptions) (h : History) (a : Option Answer) → wanted h ≡ true → is_some a ≡ is_live o h → end_of h a ≡ ends.NoMemory
 end_wanted o h None w e = rw w refl
 end_wanted o h (Some b) w e = (let x : true ≡ false = rw w at e in absurd (cc x))
 
-module _ {out : Origin} {o : FifoOptions} {L : List Packet} {e : EndView} (k : Ended out o L e) where
-  caused : Caused o (turns_from out 0 L) k.history
-  caused = each_caused o (turns_from out 0 L) k.history (in_turn out 0 L) k.follows
+-- Fates that are those of a history, but that a run without memory may go on over more packets. Packets have indices by this relation.
+module _ (out : Origin) (o : FifoOptions) (ts : List Turn) (At : ℕ → Packet → Type 0) (h : History) (end : ℕ) (fates : List (ℕ × Fate)) (notes : List FaultNote) (a : Option Answer)
+    (caused : Caused o ts h) (alive : Alive o h) (rises : Rises h end)
+    (told : (i : ℕ) (f : Fate) → (f ≡ fate.NoMemory → ⊥) → Has fates i f → Has (fates_of h) i f)
+    (back : (i : ℕ) (f : Fate) → Has (fates_of h) i f → Has fates i f)
+    (packet : (i : ℕ) (facts : PacketFacts) → HasTurn ts (Comes i facts) → (p : Packet) × At i p × (facts ≡ facts_of out p))
+    (same_at : (i : ℕ) (p q : Packet) → At i p → At i q → p ≡ q)
+    (noted_all : EndNotes h a notes) where
+  find : (i : ℕ) (f : Fate) → Has (fates_of h) i f → Found o ts h i f
+  find i f x = found o ts h end i f caused alive rises x
 
-  told : (i : ℕ) (f : Fate) → Has (expand e.fates) i f → Has (fates_of k.history) i f
-  told i f x = subst (λ (xs : List (ℕ × Fate)). Has xs i f) k.fates x
-
-  back : (i : ℕ) (f : Fate) → Has (fates_of k.history) i f → Has (expand e.fates) i f
-  back i f x = subst (λ (xs : List (ℕ × Fate)). Has xs i f) (sym k.fates) x
-
-  find : (i : ℕ) (f : Fate) → Has (expand e.fates) i f → Found o (turns_from out 0 L) k.history i f
-  find i f x = found o (turns_from out 0 L) k.history i f caused k.indexed (told i f x)
-
-  cause_of : (i : ℕ) (f : Fate) (d : Found o (turns_from out 0 L) k.history i f) → (p : Packet) × (slice_get L i ≡ Some p) × Cause o d.past i (facts_of out p) f
-  cause_of i f d = packet_cause o out L d.past i f d.turn d.has d.cause
+  -- the cause of a packet's fate
+  packet_cause : (past : History) (i : ℕ) (f : Fate) (t : Turn) → HasTurn ts t → TurnCause o past i t f → ((v : ℕ) → FlushCause o past v f → ⊥)
+      → (p : Packet) × At i p × Cause o past i (facts_of out p) f
+  packet_cause past i f (Flushes j v) has cause none = absurd (none v cause.1)
+  packet_cause past i f (Comes j facts) has cause none =
+      let k = packet j facts has in
+      (k.0, subst (λ (x : ℕ). At x k.0) cause.0 k.1, subst (λ (x : PacketFacts). Cause o past i x f) k.2 cause.1)
 
   -- the note with that number, of a packet that was tried
-  hit : (f j : ℕ) → noted k.history f ≡ Some j → (n : FaultNote) × (slice_get e.faults f ≡ Some n) × IsHit (expand e.fates) f n j
+  hit : (f j : ℕ) → noted h f ≡ Some j → (n : FaultNote) × (slice_get notes f ≡ Some n) × IsHit fates f n j
   hit f j at =
-      let run = run_notes k.history k.end_answer e.faults k.notes in
-      let n = note_at_fault k.history run.0 f j run.2 at in
-      let here : slice_get e.faults f ≡ Some n.0 = subst (λ (ns : List FaultNote). slice_get ns f ≡ Some n.0) (sym run.3) (get_front run.0 run.1 f n.0 n.1) in (
+      let run = run_notes h a notes noted_all in
+      let n = note_at_fault h run.0 f j run.2 at in
+      let here : slice_get notes f ≡ Some n.0 = subst (λ (ns : List FaultNote). slice_get ns f ≡ Some n.0) (sym run.3) (get_front run.0 run.1 f n.0 n.1) in (
         n.0,
         here,
         elim n.2 [
           | inl put ↦ inl put
-          | inr begin ↦ inr (begin, λ i x. lost_first o (turns_from out 0 L) k.history (length (fates_of k.history)) f j i caused (indexed_rises k.history k.indexed) at (told i (fate.Lost f) x))
+          | inr begin ↦ inr (begin, λ i x. lost_first o ts h end f j i caused rises at (told i (fate.Lost f) (λ e. cc e) x))
         ],
       )
 
-  key_wait_so : (i : ℕ) (p : Packet) → Has (expand e.fates) i fate.KeyWait → slice_get L i ≡ Some p
-      → (o.restart ≡ true) × (i ≢ 0) × (is_restart p (video_of out.streams.streams.items) ≡ false)
-      × (((s : ℕ) → Has (expand e.fates) (i - 1) (fate.Written s) → ⊥) ⊎ HasPut e.faults i)
+  pub key_wait_so : (i : ℕ) (p : Packet) → Has fates i fate.KeyWait → At i p → MayWait out o fates notes i p
   key_wait_so i p x at =
-      let d = find i fate.KeyWait x in
-      let c = cause_of i fate.KeyWait d in
-      let same : c.0 ≡ p = same_packet (sym c.1 ∙ at) in
+      let d = find i fate.KeyWait (told i fate.KeyWait (λ e. cc e) x) in
+      let c = packet_cause d.past i fate.KeyWait d.turn d.has d.cause (λ v y. y) in
+      let same : c.0 ≡ p = same_at i c.0 p c.1 at in
       let restart : is_restart p (video_of out.streams.streams.items) ≡ false = rw same at c.2.3 in (
         c.2.2,
         c.2.4,
         restart,
         elim c.2.5 [
           | inl none ↦ inl (λ s y.
-              (let was = d.before (i - 1) (fate.Written s) (omega (arith, c.2.4)) (told (i - 1) (fate.Written s) y) in
+              (let was = d.before (i - 1) (fate.Written s) (omega (arith, c.2.4)) (told (i - 1) (fate.Written s) (λ e. cc e) y) in
               let t : true ≡ false = sym (has_written d.past (i - 1) s was) ∙ none s in
               cc t))
-          | inr put ↦ inr (let run = run_notes k.history k.end_answer e.faults k.notes in
+          | inr put ↦ inr (let run = run_notes h a notes noted_all in
               let was = d.told run.0 run.2 in
               let first = put_more was.0 was.1 i (put_noted d.past i was.0 put was.2) in
               let all = put_more run.0 run.1 i (subst (λ (ns : List FaultNote). HasPut ns i) (sym was.3) first) in
@@ -360,18 +386,17 @@ module _ {out : Origin} {o : FifoOptions} {L : List Packet} {e : EndView} (k : E
         ],
       )
 
-  lost_so : (i f : ℕ) (p : Packet) → Has (expand e.fates) i (fate.Lost f) → slice_get L i ≡ Some p
-      → (n : FaultNote) × (slice_get e.faults f ≡ Some n) × (IsHit (expand e.fates) f n i ⊎ IsWaiting o L (expand e.fates) f n p)
+  pub lost_so : (i f : ℕ) (p : Packet) → Has fates i (fate.Lost f) → At i p → MayBeLost o At fates notes i f p
   lost_so i f p x at =
-      let d = find i (fate.Lost f) x in
-      let c = cause_of i (fate.Lost f) d in
-      let same : c.0 ≡ p = same_packet (sym c.1 ∙ at) in
+      let d = find i (fate.Lost f) (told i (fate.Lost f) (λ e. cc e) x) in
+      let c = packet_cause d.past i (fate.Lost f) d.turn d.has d.cause (λ v y. y) in
+      let same : c.0 ≡ p = same_at i c.0 p c.1 at in
       elim c.2.2 [
         | inl tried ↦ (let n = hit f i (d.later f i (tried_noted d.past i f tried c.2.1)) in (n.0, n.1, inl n.2))
         | inr waits ↦ (let w = waits_so o c.0.dts (since d.past) waits.2 in
-            let last = last_fault o (turns_from out 0 L) d.past w.1.0 d.caused w.1.1 in
+            let last = last_fault o ts d.past w.1.0 d.caused w.1.1 in
             let n = hit f last.0 (d.later f last.0 (last.4 f c.2.1)) in
-            let q = turn_packet out L last.0 last.1 last.2 in
+            let q = packet last.0 last.1 last.2 in
             let time : q.0.dts ≡ w.1.0 = sym (ap (λ (facts : PacketFacts). facts.dts) q.2) ∙ last.3 in (
               n.0,
               n.1,
@@ -387,64 +412,102 @@ module _ {out : Origin} {o : FifoOptions} {L : List Packet} {e : EndView} (k : E
             ))
       ]
 
-  after_failure_so : (i f : ℕ) → Has (expand e.fates) i (fate.AfterFailure f) → (f < length e.faults)
-      × ((j : ℕ) (h : Fate) → i < j → Has (expand e.fates) j h → (h ≡ fate.AfterFailure f) ⊎ (h ≡ fate.NoMemory))
-  after_failure_so i f x =
-      let d = find i (fate.AfterFailure f) x in
-      let c = cause_of i (fate.AfterFailure f) d in
-      let run = run_notes k.history k.end_answer e.faults k.notes in
-      let was = d.told run.0 run.2 in
-      let count = notes_count d.past was.0 was.2 in
-      let number = dead_number o d.past f c.2.1 in
-      let few : length e.faults ≡ (length was.0 + length was.1) + length run.1
-      = ap length run.3 ∙ length-append run.0 run.1 ∙ ap (λ (n : ℕ). n + length run.1) (ap length was.3 ∙ length-append was.0 was.1) in (
-        omega (arith, few, count, number),
-        λ j h lt y.
-            (let n = find j h y in
-            let m = cause_of j h n in
-            let here = n.before i (fate.AfterFailure f) lt (told i (fate.AfterFailure f) x) in
-            let dead = stays_dead o (turns_from out 0 L) n.past i f n.caused here in
-            after_dead o n.past j f (facts_of out m.0) h dead (rw dead refl) (untried_dead o (turns_from out 0 L) n.past i j f n.caused here) m.2),
-      )
-
-  no_memory_so : (i : ℕ) → Has (expand e.fates) i fate.NoMemory → (e.state ≡ ends.NoMemory)
-      × ((j : ℕ) (h : Fate) → i < j → Has (expand e.fates) j h → h ≡ fate.NoMemory)
-  no_memory_so i x =
-      let wants = stays_wanted o (turns_from out 0 L) k.history i caused (told i fate.NoMemory x) in (
-        k.state ∙ end_wanted o k.history k.end_answer wants k.end_called,
-        λ j h lt y.
-            (let n = find j h y in
-            let m = cause_of j h n in
-            let here = n.before i fate.NoMemory lt (told i fate.NoMemory x) in
-            after_want o n.past j (facts_of out m.0) h (stays_wanted o (turns_from out 0 L) n.past i n.caused here) m.2),
-      )
-
-  restart_so : (i s : ℕ) (p : Packet) → o.restart ≡ true → Has (expand e.fates) i (fate.Written s) → slice_get L i ≡ Some p
-      → (is_restart p (video_of out.streams.streams.items) ≡ true) ⊎ (i ≡ 0) ⊎ Has (expand e.fates) (i - 1) (fate.Written s)
+  pub restart_so : (i s : ℕ) (p : Packet) → o.restart ≡ true → Has fates i (fate.Written s) → At i p → MayStand out fates i s p
   restart_so i s p asked x at =
-      let d = find i (fate.Written s) x in
-      let c = cause_of i (fate.Written s) d in
-      let same : c.0 ≡ p = same_packet (sym c.1 ∙ at) in
+      let d = find i (fate.Written s) (told i (fate.Written s) (λ e. cc e) x) in
+      let c = packet_cause d.past i (fate.Written s) d.turn d.has d.cause (λ v y. y) in
+      let same : c.0 ≡ p = same_at i c.0 p c.1 at in
       elim (c.2.3 asked) [
-        | inl a ↦ inl (rw same at a)
+        | inl z ↦ inl (rw same at z)
         | inr b ↦ elim b [
           | inl z ↦ inr (inl z)
           | inr w ↦ inr (inr (back (i - 1) (fate.Written s) (d.within (i - 1) (fate.Written s) (written_has d.past (i - 1) s w))))
         ]
       ]
 
+  pub failed_so : (i f : ℕ) → Has fates i (fate.AfterFailure f) → (f < length notes)
+      × ((j : ℕ) (u : Fate) → i < j → Has (fates_of h) j u → (u ≡ fate.AfterFailure f) ⊎ (u ≡ fate.NoMemory))
+  failed_so i f x =
+      let there = told i (fate.AfterFailure f) (λ e. cc e) x in
+      let d = find i (fate.AfterFailure f) there in
+      let run = run_notes h a notes noted_all in
+      let was = d.told run.0 run.2 in
+      let count = notes_count d.past was.0 was.2 in
+      let number = dead_number o d.past f (stopped_at d.past i f d.turn d.cause) in
+      let few : length notes ≡ (length was.0 + length was.1) + length run.1
+      = ap length run.3 ∙ length-append run.0 run.1 ∙ ap (λ (n : ℕ). n + length run.1) (ap length was.3 ∙ length-append was.0 was.1) in (
+        omega (arith, few, count, number),
+        λ j u lt y.
+            (let n = find j u y in
+            let here = n.before i (fate.AfterFailure f) lt there in
+            let dead = stays_dead o ts n.past i f n.caused here in
+            turn_dead o n.past j f u n.turn dead (rw dead refl) (untried_dead o ts n.past i j f n.caused here) n.alive n.cause),
+      )
+    where
+      stopped_at : (past : History) (i f : ℕ) (t : Turn) → TurnCause o past i t (fate.AfterFailure f) → mode_of o past ≡ Dead f
+      stopped_at past i f (Comes j facts) cause = cause.1.1
+      stopped_at past i f (Flushes j v) cause = cause.1.1
+
+  pub wanted_so : (i : ℕ) → Has (fates_of h) i fate.NoMemory → wanted h ≡ true
+  wanted_so i x = stays_wanted o ts h i caused x
+
+  pub want_stays : (i j : ℕ) (u : Fate) → Has (fates_of h) i fate.NoMemory → i < j → Has (fates_of h) j u → u ≡ fate.NoMemory
+  want_stays i j u x lt y =
+      let n = find j u y in
+      let here = n.before i fate.NoMemory lt x in
+      turn_want o n.past j u n.turn (stays_wanted o ts n.past i n.caused here) n.cause
+
+  pub refused_so : (i v : ℕ) → Has fates i (fate.Refused v) → ⊥
+  refused_so i v x =
+      let d = find i (fate.Refused v) (told i (fate.Refused v) (λ e. cc e) x) in
+      never_refused o d.past i v d.turn d.cause
+
+  -- a packet with the fate Flushed was flushed by that number
+  pub flushed_so : (i v : ℕ) → Has fates i (fate.Flushed v) → HasTurn ts (Flushes i v)
+  flushed_so i v x = (let d = find i (fate.Flushed v) (told i (fate.Flushed v) (λ e. cc e) x) in by d.past d.turn d.has d.cause)
+    where
+      by : (past : History) (t : Turn) → HasTurn ts t → TurnCause o past i t (fate.Flushed v) → HasTurn ts (Flushes i v)
+      by past (Comes j facts) has cause = absurd cause.1
+      by past (Flushes j n) has cause = rw (← cause.0, cause.1.1) has
+
+  -- the turn of a packet
+  pub turn_so : (i : ℕ) (f : Fate) → Has (fates_of h) i f → (t : Turn) × HasTurn ts t × ((past : History) × TurnCause o past i t f)
+  turn_so i f x = (let d = find i f x in (d.turn, d.has, (d.past, d.cause)))
+
+module _ {out : Origin} {o : FifoOptions} {L : List Packet} {e : EndView} (k : Ended out o L e) where
+  caused : Caused o (turns_from out 0 L) k.history
+  caused = each_caused o (turns_from out 0 L) k.history (in_turn out 0 L) k.follows
+
+  told : (i : ℕ) (f : Fate) → Has (expand e.fates) i f → Has (fates_of k.history) i f
+  told i f x = subst (λ (xs : List (ℕ × Fate)). Has xs i f) k.fates x
+
+  back : (i : ℕ) (f : Fate) → Has (fates_of k.history) i f → Has (expand e.fates) i f
+  back i f x = subst (λ (xs : List (ℕ × Fate)). Has xs i f) (sym k.fates) x
+
 pub accounts_met : EndsMeetAccounts
-accounts_met out o L e k = record {
-  order = k.order;
-  covers = λ i lt. (let r = indexed_has 0 (fates_of k.history) i k.indexed (omega arith) (omega (arith, k.count, lt)) in (r.0, back k i r.0 r.1));
-  within = λ i f x. (let r = indexed_within 0 (fates_of k.history) i f k.indexed (told k i f x) in omega (arith, r.1, k.count));
-  once = λ i f h x y. indexed_once 0 (fates_of k.history) i f h k.indexed (told k i f x) (told k i h y);
-  refused = λ i v x. (let d = find k i (fate.Refused v) x in (cause_of k i (fate.Refused v) d).2);
-  flushed = λ i v x. (let d = find k i (fate.Flushed v) x in (cause_of k i (fate.Flushed v) d).2);
-  key_wait = key_wait_so k;
-  lost = lost_so k;
-  after_failure = after_failure_so k;
-  no_memory = no_memory_so k;
-  notes = rw k.are_faults (notes_rise out (StandsAt L) out.shelf (with_count e.shelf k.before k.added) k.rows k.chain k.each);
-  restart = restart_so k;
-}
+accounts_met out o L e k =
+    let ts = turns_from out 0 L in
+    let c = caused k in
+    let l = each_alive o ts k.history k.follows in
+    let r = indexed_rises k.history k.indexed in
+    let n = length (fates_of k.history) in
+    let t : (i : ℕ) (f : Fate) → (f ≡ fate.NoMemory → ⊥) → Has (expand e.fates) i f → Has (fates_of k.history) i f = λ i f other x. told k i f x in
+    let s : (i : ℕ) (p q : Packet) → slice_get L i ≡ Some p → slice_get L i ≡ Some q → p ≡ q = λ i p q x y. same_packet (sym x ∙ y) in
+    record {
+      order = k.order;
+      covers = λ i lt. (let r = indexed_has 0 (fates_of k.history) i k.indexed (omega arith) (omega (arith, k.count, lt)) in (r.0, back k i r.0 r.1));
+      within = λ i f x. (let r = indexed_within 0 (fates_of k.history) i f k.indexed (told k i f x) in omega (arith, r.1, k.count));
+      once = λ i f h x y. indexed_once 0 (fates_of k.history) i f h k.indexed (told k i f x) (told k i h y);
+      refused = refused_so out o ts (StandsAt L) k.history n (expand e.fates) e.faults k.end_answer c l r t (back k) (turn_packet out L) s k.notes;
+      flushed = λ i v x. no_flush out 0 L i v (flushed_so out o ts (StandsAt L) k.history n (expand e.fates) e.faults k.end_answer c l r t (back k) (turn_packet out L) s k.notes i v x);
+      key_wait = key_wait_so out o ts (StandsAt L) k.history n (expand e.fates) e.faults k.end_answer c l r t (back k) (turn_packet out L) s k.notes;
+      lost = lost_so out o ts (StandsAt L) k.history n (expand e.fates) e.faults k.end_answer c l r t (back k) (turn_packet out L) s k.notes;
+      after_failure = λ i f x. (let q = failed_so out o ts (StandsAt L) k.history n (expand e.fates) e.faults k.end_answer c l r t (back k) (turn_packet out L) s k.notes i f x in
+          (q.0, λ j u lt y. q.1 j u lt (told k j u y)));
+      no_memory = λ i x. (
+        k.state ∙ end_wanted o k.history k.end_answer (wanted_so out o ts (StandsAt L) k.history n (expand e.fates) e.faults k.end_answer c l r t (back k) (turn_packet out L) s k.notes i (told k i fate.NoMemory x)) k.end_called,
+        λ j u lt y. want_stays out o ts (StandsAt L) k.history n (expand e.fates) e.faults k.end_answer c l r t (back k) (turn_packet out L) s k.notes i j u (told k i fate.NoMemory x) lt (told k j u y),
+      );
+      notes = rw k.are_faults (notes_rise out (StandsAt L) out.shelf (with_count e.shelf k.before k.added) k.rows k.chain k.each);
+      restart = restart_so out o ts (StandsAt L) k.history n (expand e.fates) e.faults k.end_answer c l r t (back k) (turn_packet out L) s k.notes;
+    }

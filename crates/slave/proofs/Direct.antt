@@ -140,15 +140,18 @@ ended_direct {out = out} {o = o} {L = L} {h = h} {e = e} k =
         before = a.before;
         added = a.added;
         chain = a.chain;
+        next_segment = a.next_segment;
+        segments = a.segments;
         bytes = a.bytes;
         each = rows_other out (Gives (sent_from 0 L)) (StandsAt L) a.rows (sent_at L) a.each;
         packets = a.packets ∙ sent_written 0 L (fates_of a.history);
         notes = a.notes;
         inline = a.inline;
+        lane = a.lane;
         sound = a.sound;
         safe = a.safe;
         wants = a.wants;
-        excuse = a.excuse (L, refl);
+        excuse = λ n. a.excuse n (L, refl);
       },
       k.1,
     )

@@ -22,8 +22,9 @@ use Rattle.rmx_media.specs.declared.packet.Packet.{Packet}
 use Rattle.slave.specs.declared.records.FaultNote.{FaultNote}
 use Rattle.slave.specs.declared.records.SessionNote.{SessionNote}
 use Rattle.slave.specs.Origin.{Origin, facts_of}
+use Rattle.slave.specs.Segments.{start_of, asks_list}
 use Rattle.slave.specs.Calls.{begin_calls, end_calls, puts}
-use Rattle.slave.specs.Table.{Outcome, Closed, Row, StandsAt, LeftBy, NoteFits, Chain, AllRows, Numbered, calls_of, row_fault, row_packets, written_of, NotesTell}
+use Rattle.slave.specs.Table.{Outcome, Closed, Row, StandsAt, LeftBy, NoteFits, Chain, GoesOnFrom, AllRows, Numbered, calls_of, row_fault, row_packets, written_of, NotesTell}
 use Rattle.slave.specs.Accounts.{NotesRise}
 use Rattle.slave.specs.End.{EndsAs, EndNotes}
 use Rattle.slave.specs.Headline.{whole_file, NoFaultNoLoss}
@@ -115,15 +116,19 @@ all_bytes calls b a s is e =
     let none : raised (raised 0 0) (bytes_of calls) ≡ raised 0 (bytes_of calls) = omega arith in
     ap total inner ∙ total-accepted calls (counted 0 0) ∙ none
 
+no_lists : (b : Bool) → (b ≡ true → ⊥) → b ≡ false
+no_lists true f = absurd (f refl)
+no_lists false f = refl
+
 pub holds_all : NoFaultNoLoss
 unfolding note_of counted
-holds_all out o L e k no_fault no_want =
+holds_all out o L e k no_fault no_want no_list =
     let h = k.history in
     let r = k.last in
     let now = with_count e.shelf k.before k.added in
     let rises : NotesRise out.shelf.faults e.faults now.faults = rw k.are_faults (notes_rise out (StandsAt L) out.shelf now k.rows k.chain k.each) in
     let none = no_notes out.shelf.faults now.faults e.faults rises no_fault in
-    let fine : e.state ≡ ends.NoMemory → ⊥ = λ (x : e.state ≡ ends.NoMemory). no_want (k.excuse x none) in
+    let fine : e.state ≡ ends.NoMemory → ⊥ = λ (x : e.state ≡ ends.NoMemory). no_want (k.excuse (no_lists (asks_list out.seg) (λ y. no_list (y, x))) x none) in
     let told = told_notes h k.end_answer e.faults k.notes none in
     let unwanted = end_unwanted o h k.end_answer (wanted h) refl k.end_called (λ s n. (let g : end_of h k.end_answer ≡ ends.NoMemory = rw n s in fine (k.state ∙ g))) in
     let clean = all_done h told.1 unwanted in
@@ -141,8 +146,9 @@ holds_all out o L e k no_fault no_want =
     let packets : row_packets r ≡ map (λ (p : Packet). (0, p)) L
     = sym (append-nil (row_packets r)) ∙ (packets_told ∙ ap (λ (fs : List (ℕ × Fate)). written_of L fs) whole.0 ∙ written_all out 0 L) in
     let written : r.written ≡ L = sym (seconds r.note.number r.written) ∙ ap (λ (xs : List (ℕ × Packet)). map (λ (x : ℕ × Packet). x.1) xs) packets ∙ seconds 0 L in
-    let calls : calls_of out r ++ end_calls out r.written ≡ whole_file out L =
-    append_assoc (begin_calls out r.note.number) (puts out r.written) (end_calls out r.written) ∙ rw (number, written) refl in
+    let going : GoesOnFrom (start_of out.seg) (r ∷ []) k.next_segment = rw rows_is at k.segments in
+    let calls : calls_of out r ++ end_calls out r.first r.written ≡ whole_file out L =
+    append_assoc (begin_calls out r.first r.note.number) (puts out r.first r.written) (end_calls out r.first r.written) ∙ rw (number, written, going.0) refl in
     let made = subst (λ (cs : List ShelfCall). Completed cs r.before r.after) calls left.2 in
     let from_first = subst (λ (x : ShelfState). Completed (whole_file out L) x r.after) chain.0 made in
     let file = subst (λ (x : ShelfState). Completed (whole_file out L) out.shelf x) chain.1 from_first in

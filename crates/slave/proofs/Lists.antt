@@ -64,7 +64,7 @@ gap_push [] x i f = refl
 gap_push (y ∷ []) x i f = refl
 gap_push (y ∷ z ∷ xs) x i f = gap_push (z ∷ xs) x i f
 
-no_memory_is : (f : Fate) → is_no_memory f ≡ true → f ≡ fate.NoMemory
+pub no_memory_is : (f : Fate) → is_no_memory f ≡ true → f ≡ fate.NoMemory
 no_memory_is (fate.Written s) e = absurd (cc e)
 no_memory_is (fate.Refused v) e = absurd (cc e)
 no_memory_is (fate.Flushed v) e = absurd (cc e)

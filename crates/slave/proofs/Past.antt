@@ -73,6 +73,17 @@ indexed_rises (Fated i f ∷ h) k =
     let more = length-append (fates_of h) ((i, f) ∷ []) in
     (omega (arith, size, more), rw size (indexed_rises h r.0))
 
+-- each fate has an index below the end
+pub rises_within : (h : History) (n i : ℕ) (f : Fate) → Rises h n → Has (fates_of h) i f → i < n
+rises_within [] n i f r x = absurd x
+rises_within (Begun a ∷ h) n i f r x = rises_within h n i f r x
+rises_within (Tried s j facts a ∷ h) n i f r x = rises_within h n i f r x
+rises_within (Want ∷ h) n i f r x = rises_within h n i f r x
+rises_within (Fated j u ∷ h) n i f r x = elim (has_split (fates_of h) (j, u) i f x) [
+  | inl a ↦ (let b = rises_within h j i f r.1 a in omega (arith, b, r.0))
+  | inr b ↦ omega (arith, b.0, r.0)
+]
+
 or_cases : (a b : Bool) → (a || b) ≡ true → (a ≡ true) ⊎ (b ≡ true)
 or_cases true b e = inl refl
 or_cases false b e = inr e
@@ -81,7 +92,7 @@ or_right : (a b : Bool) → b ≡ true → (a || b) ≡ true
 or_right true b e = refl
 or_right false b e = e
 
-both : (a b : Bool) → (a && b) ≡ true → (a ≡ true) × (b ≡ true)
+pub both : (a b : Bool) → (a && b) ≡ true → (a ≡ true) × (b ≡ true)
 both true b e = (refl, e)
 both false b e = absurd (cc e)
 

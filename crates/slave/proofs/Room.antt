@@ -14,6 +14,7 @@ use Rattle.rmx_media.specs.declared.packet.Packet.{Packet}
 use Rattle.slave.specs.declared.records.Run.{Run}
 use Rattle.slave.specs.Origin.{Origin, facts_of}
 use Rattle.slave.specs.Runs.{expand, Joins, InOrder}
+use Rattle.slave.specs.Segments.{asks_list}
 use Rattle.slave.specs.Job.{JobView, MakesRoom}
 use Rattle.slave.specs.Table.{Keeps, KeepsAll, Stands, NotesTell, turns_from, expected_in}
 use Rattle.slave.specs.Given.{Given, Sent, Swept, index_of, turn_of, end_from, sent_from, IsGapless}
@@ -72,11 +73,11 @@ all_joins rs e xs o is = elim (last_run 0 e rs o) [ inl none ↦ inl none | inr 
 -- where room is refused, memory was wanted before, or there is a note
 pub refused_room : {out : Origin} {o : FifoOptions} {L : List Packet} (p : Packet) (i : ℕ) (facts : PacketFacts) (f : Fate) (b : Bool) (v w : JobView)
     (k : Keeps out o L v) → MakesRoom i f v b w → b ≡ false → length L ≡ i → facts ≡ facts_of out p
-    → f ≡ expected_in o k.history (action_of o k.history i facts) → v.faults ≡ [] → Rose out.shelf.wants v.shelf.wants
-refused_room {out = out} {o = o} {L = L} p i facts f b v w k m refused at same is none = by (wanted k.history) refl
+    → f ≡ expected_in o k.history (action_of o k.history i facts) → asks_list out.seg ≡ false → v.faults ≡ [] → Rose out.shelf.wants v.shelf.wants
+refused_room {out = out} {o = o} {L = L} p i facts f b v w k m refused at same is unlisted none = by (wanted k.history) refl
   where
     by : (x : Bool) → wanted k.history ≡ x → Rose out.shelf.wants v.shelf.wants
-    by true u = k.stands.table.excuse (L, refl) u none
+    by true u = k.stands.table.excuse unlisted (L, refl) u none
     by false u =
         let h = k.history in
         let told : NotesTell h [] = rw none at k.stands.table.notes in
@@ -96,8 +97,8 @@ refused_room {out = out} {o = o} {L = L} p i facts f b v w k m refused at same i
 -- the same of what was given without gaps
 pub refused_gapless : {out : Origin} {o : FifoOptions} (T : List Given) (p : Packet) (i : ℕ) (facts : PacketFacts) (f : Fate) (b : Bool) (v w : JobView)
     (k : KeepsAll out o T v) → MakesRoom i f v b w → b ≡ false → facts ≡ facts_of out p
-    → f ≡ expected_in o k.history (action_of o k.history i facts) → IsGapless (T ++ Sent i p ∷ []) → v.faults ≡ [] → Rose out.shelf.wants v.shelf.wants
-refused_gapless {out = out} {o = o} T p i facts f b v w k m refused same is gapless none =
+    → f ≡ expected_in o k.history (action_of o k.history i facts) → asks_list out.seg ≡ false → IsGapless (T ++ Sent i p ∷ []) → v.faults ≡ [] → Rose out.shelf.wants v.shelf.wants
+refused_gapless {out = out} {o = o} T p i facts f b v w k m refused same is unlisted gapless none =
     let g = gapless_last T (Sent i p) gapless in
     let index : i ≡ 0 + length g.0 = ap index_of g.3 in
     let follows : Follows o (map (turn_of out) (sent_from 0 g.0)) k.history = subst (λ (ts : List Given). Follows o (map (turn_of out) ts) k.history) g.2 k.follows in
@@ -106,7 +107,7 @@ refused_gapless {out = out} {o = o} T p i facts f b v w k m refused same is gapl
       follows = rw (sent_turns out 0 g.0) at follows;
       stands = subst (λ (ts : List Given). Stands out o ts k.history v) g.2 k.stands;
     } in
-    refused_room p i facts f b v w kept m refused (omega (arith, index)) same is none
+    refused_room p i facts f b v w kept m refused (omega (arith, index)) same is unlisted none
 
 -- a packet that is flushed leaves a gap
 pub swept_gap : (T : List Given) (i n : ℕ) → IsGapless (T ++ Swept i n ∷ []) → ⊥

@@ -11,7 +11,7 @@ use Rattle.slave.specs.Origin.{Origin}
 use Rattle.slave.specs.declared.records.FaultNote.{FaultNote}
 use Rattle.slave.specs.Calls.{put_calls, puts}
 use Rattle.slave.specs.Given.{Given, Sent, Swept, index_of, end_from, Gives, sent_from, IsGapless}
-use Rattle.slave.specs.Table.{Outcome, Open, NotBegun, PutFailed, EndFailed, Closed, Row, LeftBy, NoteFits, RowHolds, AllRows, Chain, row_fault, row_packets, if_given, written_among, indices, Numbered}
+use Rattle.slave.specs.Table.{Outcome, Open, NotCalled, NotBegun, PutFailed, EndFailed, Closed, Row, LeftBy, NoteFits, RowHolds, AllRows, Chain, GoesOnFrom, row_fault, row_packets, if_given, written_among, indices, Numbered}
 
 pub map_push : {A B : Type 0} (f : A → B) (xs : List A) (x : A) → map f (xs ++ x ∷ []) ≡ map f xs ++ f x ∷ []
 map_push f [] x = refl
@@ -34,10 +34,10 @@ pub packets_push : (rs : List Row) (r : Row) → flat_map row_packets (rs ++ r �
 packets_push [] r = append-nil (row_packets r)
 packets_push (q ∷ rs) r = rw (packets_push rs r) (sym (append_assoc (row_packets q) (flat_map row_packets rs) (row_packets r)))
 
-pub puts_push : (out : Origin) (ps : List Packet) (p : Packet) → puts out (ps ++ p ∷ []) ≡ puts out ps ++ put_calls out ps p
-puts_push out ps p =
-    calls_over-append (put_calls out) [] ps (p ∷ [])
-    ∙ ap (λ (cs : List ShelfCall). puts out ps ++ cs) (append-nil (put_calls out ps p))
+pub puts_push : (out : Origin) (first : ℕ) (ps : List Packet) (p : Packet) → puts out first (ps ++ p ∷ []) ≡ puts out first ps ++ put_calls out first ps p
+puts_push out first ps p =
+    calls_over-append (put_calls out first) [] ps (p ∷ [])
+    ∙ ap (λ (cs : List ShelfCall). puts out first ps ++ cs) (append-nil (put_calls out first ps p))
 
 pub chain_next : (first now : ShelfState) (rs : List Row) (r : Row) → Chain first rs now → r.before ≡ now → Chain first (rs ++ r ∷ []) r.after
 chain_next first now [] r c e = (e ∙ sym c, refl)
@@ -50,6 +50,18 @@ chain_last first now (s ∷ rs) r q c e = (c.0, chain_last s.after now rs r q c.
 pub chain_end : (first now : ShelfState) (rs : List Row) (r : Row) → Chain first (rs ++ r ∷ []) now → r.after ≡ now
 chain_end first now [] r c = c.1
 chain_end first now (s ∷ rs) r c = chain_end s.after now rs r c.1
+
+pub segments_next : (number next : ℕ) (rs : List Row) (r : Row) → GoesOnFrom number rs next → r.first ≡ next → GoesOnFrom number (rs ++ r ∷ []) r.next
+segments_next number next [] r g e = (e ∙ sym g, refl)
+segments_next number next (q ∷ rs) r g e = (g.0, segments_next q.next next rs r g.1 e)
+
+pub segments_last : (number next : ℕ) (rs : List Row) (r q : Row) → GoesOnFrom number (rs ++ r ∷ []) next → q.first ≡ r.first → GoesOnFrom number (rs ++ q ∷ []) q.next
+segments_last number next [] r q g e = (e ∙ g.0, refl)
+segments_last number next (s ∷ rs) r q g e = (g.0, segments_last s.next next rs r q g.1 e)
+
+pub segments_end : (number next : ℕ) (rs : List Row) (r : Row) → GoesOnFrom number (rs ++ r ∷ []) next → r.next ≡ next
+segments_end number next [] r g = g.1
+segments_end number next (s ∷ rs) r g = segments_end s.next next rs r g.1
 
 pub rows_push : (out : Origin) (At : ℕ → Packet → Type 0) (rs : List Row) (r : Row) → AllRows out At rs → RowHolds out At r → AllRows out At (rs ++ r ∷ [])
 rows_push out At [] r a h = (h, tt)
@@ -65,8 +77,9 @@ rows_last out At (q ∷ rs) r a = rows_last out At rs r a.1
 
 left_other : (out : Origin) (At Bt : ℕ → Packet → Type 0) (r : Row) (o : Outcome) → ((i : ℕ) (p : Packet) → At i p → Bt i p) → LeftBy out At r o → LeftBy out Bt r o
 left_other out At Bt r Open f l = l
+left_other out At Bt r NotCalled f l = l
 left_other out At Bt r NotBegun f l = l
-left_other out At Bt r (PutFailed i q) f l = (l.0, l.1, f i q l.2, l.3)
+left_other out At Bt r (PutFailed i q) f l = (l.0, l.1, f i q l.2, l.3, l.4)
 left_other out At Bt r EndFailed f l = l
 left_other out At Bt r Closed f l = l
 

@@ -19,6 +19,7 @@ use Rattle.slave.specs.declared.records.FaultNote.{FaultNote}
 use Rattle.rmx_edge.specs.Count.{Rose}
 use Rattle.slave.specs.Given.{Given, Sent, Swept, index_of, turn_of, end_from, IsGapless}
 use Rattle.slave.specs.Runs.{Joins, AreInOrder}
+use Rattle.slave.specs.Segments.{asks_list}
 use Rattle.slave.proofs.Lists.{joins_later, order_later}
 use Rattle.slave.specs.Job.{JobView, KitOf, Writer, WriterAfter, Calls, Puts, OpensAndPuts, Settles, is_done}
 use Rattle.slave.specs.Table.{if_written, if_given, indices, Table, ahead_of}
@@ -294,11 +295,15 @@ put_faults answer.NoMemory v w c e = absurd (cc e)
 abbrev pub written_before : {out : Origin} {o : FifoOptions} {T : List Given} {i : ℕ} {p : Packet} {h : History} {v : JobView} → Writes out o T i p h v → List Packet
 written_before t = t.table.last.last.written
 
-pub put_after : {out : Origin} {o : FifoOptions} {T : List Given} {i : ℕ} {p : Packet} {h : History} {v : JobView} (t : Writes out o T i p h v) → WriterAfter out (written_before t) v.kit.writer
+-- the number of its first segment
+abbrev pub first_in : {out : Origin} {o : FifoOptions} {T : List Given} {i : ℕ} {p : Packet} {h : History} {v : JobView} → Writes out o T i p h v → ℕ
+first_in t = t.table.last.last.first
+
+pub put_after : {out : Origin} {o : FifoOptions} {T : List Given} {i : ℕ} {p : Packet} {h : History} {v : JobView} (t : Writes out o T i p h v) → WriterAfter out (first_in t) (written_before t) v.kit.writer
 put_after t = (t.table.last.is_open t.unwanted t.live).1
 
 pub put_holds : {out : Origin} {o : FifoOptions} {T : List Given} {i : ℕ} {p : Packet} {h : History} (a : Answer) (v w : JobView)
-    (t : Writes out o T i p h v) → Puts out (written_before t) p (Put i) v a w → Holds out o T i p h a w
+    (t : Writes out o T i p h v) → Puts out (first_in t) (written_before t) p (Put i) v a w → Holds out o T i p h a w
 put_holds {out = out} {o = o} {T = T} {i = i} {p = p} {h = h} a v w t made =
     let c = made.calls in
     record {
@@ -563,7 +568,7 @@ with_fifo v x = record v { fifo = x }
 -- memory was wanted for the run
 pub wanting : {out : Origin} {o : FifoOptions} {T : List Given} {h : History} (t : Given) (f e : Fate) (b : Bool) (v w : JobView) (x : FifoState)
     → Stands out o T h v → end_from 0 T ≤ index_of t → MakesRoom (index_of t) f v b w → Shows o (Want ∷ h) None x → next_of x ≡ next_of w.fifo
-    → (IsGapless (T ++ t ∷ []) → v.faults ≡ [] → Rose out.shelf.wants v.shelf.wants) → Primed out o T t e (Want ∷ h) (with_fifo w x)
+    → (asks_list out.seg ≡ false → IsGapless (T ++ t ∷ []) → v.faults ≡ [] → Rose out.shelf.wants v.shelf.wants) → Primed out o T t e (Want ∷ h) (with_fifo w x)
 wanting {T = T} t f e b v w x k later m shows next excused = record {
   shows = shows;
   later = omega (arith, later, next ∙ ap next_of m.fifo ∙ k.next);
@@ -571,7 +576,7 @@ wanting {T = T} t f e b v w x k later m shows next excused = record {
   count = k.count;
   indexed = k.indexed;
   order = rw m.runs (order_later (end_from 0 T) (index_of t) v.runs k.order later);
-  table = want_now (widened t k.count (rw (m.shelf, m.kit, m.runs, m.sessions, m.faults) k.table)) (λ q none. rw m.shelf (excused q (sym m.faults ∙ none)));
+  table = want_now (widened t k.count (rw (m.shelf, m.kit, m.runs, m.sessions, m.faults) k.table)) (λ n q none. rw m.shelf (excused n q (sym m.faults ∙ none)));
   places = record {
     runs = elim k.places.runs [ inl le ↦ inl (omega (arith, le, m.run_places)) | inr y ↦ inr (refl, rw (m.runs, next ∙ ap next_of m.fifo) y.1) ];
     sessions = λ u l. absurd (cc u);

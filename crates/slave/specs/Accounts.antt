@@ -11,6 +11,7 @@ use Rattle.slave.specs.declared.records.FaultAt.TheVariants.{Begin, Put}
 use Rattle.slave.specs.declared.records.FaultNote.{FaultNote}
 use Rattle.slave.specs.Origin.{Origin, video_of}
 use Rattle.slave.specs.Runs.{expand, AreInOrder}
+use Rattle.slave.specs.Table.{StandsAt}
 use Rattle.slave.specs.End.{EndView, Ended}
 
 -- the fate of a packet is among these
@@ -34,15 +35,28 @@ HasPut (n ∷ ns) i = (n.at ≡ Put i) ⊎ HasPut ns i
 abbrev pub IsHit : List (ℕ × Fate) → ℕ → FaultNote → ℕ → Type 0
 IsHit fates f n i = (n.at ≡ Put i) ⊎ ((n.at ≡ Begin) × ((j : ℕ) → Has fates j (fate.Lost f) → i ≤ j))
 
--- the packet comes before the wait is over that began with packet j, which note f hit
-pub record IsWaiting (o : FifoOptions) (L : List Packet) (fates : List (ℕ × Fate)) (f : ℕ) (n : FaultNote) (p : Packet) : Type 0 where
+-- The packet comes before the wait is over that began with packet j, which note f hit. Packets have indices by this relation.
+pub record IsWaiting (o : FifoOptions) (At : ℕ → Packet → Type 0) (fates : List (ℕ × Fate)) (f : ℕ) (n : FaultNote) (p : Packet) : Type 0 where
   pub recovers : o.attempt_recovery ≡ true
   pub waits : o.wait_ms ≢ 0
   pub index : ℕ
   pub packet : Packet
-  pub at : slice_get L index ≡ Some packet
+  pub at : At index packet
   pub hit : IsHit fates f n index
   pub early : int_lt (p.dts -ℤ packet.dts) (pos o.wait_ms) ≡ true
+
+-- a packet waits for a restart packet only behind one that wasn't written, or where its own write failed
+abbrev pub MayWait : Origin → FifoOptions → List (ℕ × Fate) → List FaultNote → ℕ → Packet → Type 0
+MayWait g o fates notes i p = (o.restart ≡ true) × (i ≢ 0) × (is_restart p (video_of g.streams.streams.items) ≡ false)
+    × (((s : ℕ) → Has fates (i - 1) (fate.Written s) → ⊥) ⊎ HasPut notes i)
+
+-- a packet is lost at its own fault, or in the wait after one
+abbrev pub MayBeLost : FifoOptions → (ℕ → Packet → Type 0) → List (ℕ × Fate) → List FaultNote → ℕ → ℕ → Packet → Type 0
+MayBeLost o At fates notes i f p = (n : FaultNote) × (slice_get notes f ≡ Some n) × (IsHit fates f n i ⊎ IsWaiting o At fates f n p)
+
+-- a packet may stand first, or stands right behind the one before it
+abbrev pub MayStand : Origin → List (ℕ × Fate) → ℕ → ℕ → Packet → Type 0
+MayStand g fates i s p = (is_restart p (video_of g.streams.streams.items) ≡ true) ⊎ (i ≡ 0) ⊎ Has fates (i - 1) (fate.Written s)
 
 pub record Accounts (g : Origin) (o : FifoOptions) (L : List Packet) (e : EndView) : Type 0 where
   -- each packet lies in exactly one run; the runs are in order, and neighbours differ
@@ -55,11 +69,10 @@ pub record Accounts (g : Origin) (o : FifoOptions) (L : List Packet) (e : EndVie
   pub flushed : (i v : ℕ) → Has (expand e.fates) i (fate.Flushed v) → ⊥
   -- a packet waits for a restart packet only behind one that wasn't written, or where its own write failed
   pub key_wait : (i : ℕ) (p : Packet) → Has (expand e.fates) i fate.KeyWait → slice_get L i ≡ Some p
-      → (o.restart ≡ true) × (i ≢ 0) × (is_restart p (video_of g.streams.streams.items) ≡ false)
-      × (((s : ℕ) → Has (expand e.fates) (i - 1) (fate.Written s) → ⊥) ⊎ HasPut e.faults i)
+      → MayWait g o (expand e.fates) e.faults i p
   -- a packet is lost at its own fault, or in the wait after one
   pub lost : (i f : ℕ) (p : Packet) → Has (expand e.fates) i (fate.Lost f) → slice_get L i ≡ Some p
-      → (n : FaultNote) × (slice_get e.faults f ≡ Some n) × (IsHit (expand e.fates) f n i ⊎ IsWaiting o L (expand e.fates) f n p)
+      → MayBeLost o (StandsAt L) (expand e.fates) e.faults i f p
   -- once the output was given up at a fault, it stays so
   pub after_failure : (i f : ℕ) → Has (expand e.fates) i (fate.AfterFailure f) → (f < length e.faults)
       × ((j : ℕ) (h : Fate) → i < j → Has (expand e.fates) j h → (h ≡ fate.AfterFailure f) ⊎ (h ≡ fate.NoMemory))
@@ -70,7 +83,7 @@ pub record Accounts (g : Origin) (o : FifoOptions) (L : List Packet) (e : EndVie
   pub notes : NotesRise g.shelf.faults e.faults e.shelf.faults
   -- where restart is asked, each written packet may stand first or stands right behind the one before it
   pub restart : (i s : ℕ) (p : Packet) → o.restart ≡ true → Has (expand e.fates) i (fate.Written s) → slice_get L i ≡ Some p
-      → (is_restart p (video_of g.streams.streams.items) ≡ true) ⊎ (i ≡ 0) ⊎ Has (expand e.fates) (i - 1) (fate.Written s)
+      → MayStand g (expand e.fates) i s p
 
 -- every end of an output meets its accounts
 abbrev pub EndsMeetAccounts : Type 0

@@ -13,13 +13,15 @@ use Rattle.rmx_edge.specs.Counted.{with_count}
 use Rattle.rmx_media.specs.declared.packet.Packet.{Packet}
 use Rattle.slave.specs.Origin.{Origin}
 use Rattle.slave.specs.declared.records.Run.{Run}
+use Rattle.slave.specs.declared.records.LaneNote.{LaneNote}
 use Rattle.slave.specs.declared.records.SessionNote.{SessionNote}
 use Rattle.slave.specs.declared.records.FaultAt.TheVariants.{End}
 use Rattle.slave.specs.declared.records.FaultNote.{FaultNote}
 use Rattle.slave.specs.declared.job.SlaveEnd.{SlaveEnd}
 use Rattle.slave.specs.Runs.{expand, AreInOrder}
+use Rattle.slave.specs.Segments.{start_of, asks_list}
 use Rattle.slave.specs.Given.{Given, index_of, turn_of, end_from, Gives, IsGapless}
-use Rattle.slave.specs.Table.{StandsAt, indices, covered, written_among, EndFailed, Closed, Row, AllRows, Chain, row_note, row_fault, row_packets, written_of, NotesTell, Numbered, Indexed, turns_from}
+use Rattle.slave.specs.Table.{StandsAt, indices, covered, written_among, EndFailed, Closed, Row, AllRows, Chain, GoesOnFrom, row_note, row_fault, row_packets, written_of, NotesTell, Numbered, Indexed, turns_from}
 
 pub record EndView : Type 0 where
   pub shelf : ShelfState
@@ -28,6 +30,7 @@ pub record EndView : Type 0 where
   pub faults : List FaultNote
   pub state : EndState
   pub inline : Bool
+  pub lane : Option LaneNote
   pub bytes : ℕ
 
 abbrev pub end_view : {S : Type 0} → (S → ShelfState) → SlaveEnd S → EndView
@@ -38,6 +41,7 @@ end_view state e = record {
   faults = e.faults.items;
   state = e.state;
   inline = e.inline;
+  lane = e.lane;
   bytes = e.bytes;
 }
 
@@ -81,16 +85,19 @@ pub record Ended (g : Origin) (o : FifoOptions) (L : List Packet) (e : EndView) 
   pub before : ℕ
   pub added : ℕ
   pub chain : Chain g.shelf rows (with_count e.shelf before added)
+  pub next_segment : ℕ
+  pub segments : GoesOnFrom (start_of g.seg) rows next_segment
   pub bytes : e.bytes ≡ raised before added
   pub each : AllRows g (StandsAt L) rows
   pub packets : flat_map row_packets rows ≡ written_of L (fates_of history)
   pub notes : EndNotes history end_answer e.faults
   pub inline : e.inline ≡ false
+  pub lane : e.lane ≡ None
   -- a sound shelf had no fault, and none is noted
   pub sound : g.shelf.sound ≡ true → e.shelf.faults ≡ g.shelf.faults
   pub safe : g.shelf.sound ≡ true → e.faults ≡ []
   pub wants : g.shelf.wants ≤ e.shelf.wants
-  pub excuse : e.state ≡ ends.NoMemory → e.faults ≡ [] → Rose g.shelf.wants e.shelf.wants
+  pub excuse : asks_list g.seg ≡ false → e.state ≡ ends.NoMemory → e.faults ≡ [] → Rose g.shelf.wants e.shelf.wants
 
 -- and its history is this one
 abbrev pub EndedBy : Origin → FifoOptions → List Packet → History → EndView → Type 0
@@ -135,16 +142,19 @@ pub record EndedAll (g : Origin) (o : FifoOptions) (T : List Given) (e : EndView
   pub before : ℕ
   pub added : ℕ
   pub chain : Chain g.shelf rows (with_count e.shelf before added)
+  pub next_segment : ℕ
+  pub segments : GoesOnFrom (start_of g.seg) rows next_segment
   pub bytes : e.bytes ≡ raised before added
   pub each : AllRows g (Gives T) rows
   pub packets : flat_map row_packets rows ≡ written_among T (fates_of history)
   pub notes : EndNotes history end_answer e.faults
   pub inline : e.inline ≡ false
+  pub lane : e.lane ≡ None
   -- a sound shelf had no fault, and none is noted
   pub sound : g.shelf.sound ≡ true → e.shelf.faults ≡ g.shelf.faults
   pub safe : g.shelf.sound ≡ true → e.faults ≡ []
   pub wants : g.shelf.wants ≤ e.shelf.wants
-  pub excuse : IsGapless T → e.state ≡ ends.NoMemory → e.faults ≡ [] → Rose g.shelf.wants e.shelf.wants
+  pub excuse : asks_list g.seg ≡ false → IsGapless T → e.state ≡ ends.NoMemory → e.faults ≡ [] → Rose g.shelf.wants e.shelf.wants
 
 abbrev pub EndedAllBy : Origin → FifoOptions → List Given → History → EndView → Type 0
 EndedAllBy g o T h e = (k : EndedAll g o T e) × (k.history ≡ h)

@@ -11,11 +11,12 @@ use Rattle.rmx_media.specs.declared.packet.Packet.{Packet}
 use Rattle.slave.specs.Origin.{Origin, facts_of}
 use Rattle.slave.specs.Calls.{begin_calls, put_calls, end_calls}
 use Rattle.slave.specs.Runs.{expand}
+use Rattle.slave.specs.Segments.{start_of, asks_list}
 use Rattle.slave.specs.End.{EndView, Ended}
 
--- the calls of the whole file
+-- the calls of the whole file, or of all segments and their list
 abbrev pub whole_file : Origin → List Packet → List ShelfCall
-whole_file g L = file_calls (begin_calls g 0) (put_calls g) (end_calls g) L
+whole_file g L = file_calls (begin_calls g (start_of g.seg) 0) (put_calls g (start_of g.seg)) (end_calls g (start_of g.seg)) L
 
 pub record HoldsAll (g : Origin) (L : List Packet) (e : EndView) : Type 0 where
   pub fates : expand e.fates ≡ all_written 0 (map (facts_of g) L)
@@ -26,7 +27,11 @@ pub record HoldsAll (g : Origin) (L : List Packet) (e : EndView) : Type 0 where
   pub calls : e.shelf.calls ≡ option_map (λ n. raised n (length (whole_file g L))) g.shelf.calls
   pub bytes : e.bytes ≡ raised 0 (bytes_of (whole_file g L))
 
--- There is no premise on memory: what memory the job itself needs for this it has from the start.
+-- it ended for want of memory though it asks for a list of its segments, which takes memory for its entries
+abbrev pub WantsForList : Origin → EndView → Type 0
+WantsForList g e = (asks_list g.seg ≡ true) × (e.state ≡ ends.NoMemory)
+
+-- There is no premise on memory where no list of segments is asked for: what memory the job itself needs for this it has from the start.
 abbrev pub NoFaultNoLoss : Type 0
 NoFaultNoLoss = (g : Origin) (o : FifoOptions) (L : List Packet) (e : EndView) → Ended g o L e
-    → (Rose g.shelf.faults e.shelf.faults → ⊥) → (Rose g.shelf.wants e.shelf.wants → ⊥) → HoldsAll g L e
+    → (Rose g.shelf.faults e.shelf.faults → ⊥) → (Rose g.shelf.wants e.shelf.wants → ⊥) → (WantsForList g e → ⊥) → HoldsAll g L e

@@ -1,5 +1,5 @@
 -- What clauses see of an output's job, and what each step does to it.
-use Rattle.std.specs.Prelude.{◌≡◌, ◌≢◌, ℕ, ◌+◌, ◌≤◌, ◌⊎◌, Bool, true, false, List, [], ◌∷◌, ◌++◌, length, Option, Some, string_bytes}
+use Rattle.std.specs.Prelude.{◌≡◌, ◌≢◌, ℕ, ◌+◌, ◌≤◌, ◌⊎◌, Bool, true, false, List, [], ◌∷◌, ◌++◌, length, Option, Some, None, string_bytes}
 use Rattle.fifo_core.specs.declared.types.Answer.{Answer}
 use Rattle.fifo_core.specs.declared.types.Answer.TheVariants as answer
 use Rattle.fifo_core.specs.declared.types.Fate.{Fate}
@@ -13,7 +13,10 @@ use Rattle.rmx_edge.specs.Run.{Completed, Stopped}
 use Rattle.rmx_media.specs.declared.packet.Packet.{Packet}
 use Rattle.slave.specs.declared.mux.Mux.{Mux}
 use Rattle.slave.specs.Origin.{Origin, video_of}
-use Rattle.slave.specs.Calls.{begin_calls, put_calls, end_calls, IsMuxOf, MuxAfter}
+use Rattle.playlist.specs.declared.seg_options.SegOptions.{SegOptions}
+use Rattle.segmenter.specs.Numbers.{called}
+use Rattle.slave.specs.Segments.{asks_list, number_after}
+use Rattle.slave.specs.Calls.{begin_calls, put_calls, end_calls, IsMuxOf, MuxAfter, number_in}
 use Rattle.slave.specs.declared.records.Run.{Run}
 use Rattle.slave.specs.declared.records.SessionNote.{SessionNote}
 use Rattle.slave.specs.declared.records.FaultAt.{FaultAt}
@@ -28,9 +31,10 @@ pub record Writer : Type 0 where
   pub mux : Mux
   pub flushed : Bool
 
--- it is where these packets of the file left it, and all that was written for them was flushed
-pub record WriterAfter (g : Origin) (before : List Packet) (w : Writer) : Type 0 where
-  pub mux : MuxAfter g before w.mux
+-- It is where these packets of the session left it, of which the first segment has that number where it has segments. All that was
+-- written for them was flushed.
+pub record WriterAfter (g : Origin) (first : ℕ) (before : List Packet) (w : Writer) : Type 0 where
+  pub mux : MuxAfter g first before w.mux
   pub flushed : before ≢ [] → w.flushed ≡ true
 
 -- what a job keeps of what it was made of
@@ -72,6 +76,10 @@ view_of state job = record {
   fault_places = job.faults.spare;
 }
 
+-- the number that the next segment gets
+abbrev pub number_of : JobView → ℕ
+number_of v = number_in v.kit.writer.mux
+
 -- a sound shelf had no fault, and is sound still
 abbrev pub SoundStays : ShelfState → ShelfState → Type 0
 SoundStays old new = old.sound ≡ true → (new.sound ≡ true) × (new.faults ≡ old.faults)
@@ -80,21 +88,34 @@ SoundStays old new = old.sound ≡ true → (new.sound ≡ true) × (new.faults 
 abbrev pub note_at : JobView → FaultAt → JobView → FaultNote
 note_at old at new = record { session = session_in old.fifo; at = at; before = old.shelf.faults; after = new.shelf.faults }
 
--- what the calls did to the shelf and the notes, by the answer
-abbrev pub CallsMade : List ShelfCall → FaultAt → Bool → JobView → Answer → JobView → Type 0
-CallsMade calls at writing old answer.Done new =
+-- the shelf wanted memory in one of the calls
+abbrev pub ShelfWants : Option SegOptions → List ShelfCall → JobView → JobView → Type 0
+ShelfWants seg calls old new =
+    (stop : Stopped calls 0 old.shelf new.shelf) × (new.shelf.writing ≡ false)
+    × (new.faults ≡ old.faults) × (new.fault_places ≡ old.fault_places) × Rose old.shelf.wants new.shelf.wants
+    × (number_of new ≡ number_after seg (number_of old) (called stop))
+
+-- memory for an entry of a list was wanted before any of the calls
+abbrev pub ListWants : Option SegOptions → JobView → JobView → Type 0
+ListWants seg old new =
+    (asks_list seg ≡ true) × (new.shelf ≡ old.shelf)
+    × (new.faults ≡ old.faults) × (new.fault_places ≡ old.fault_places) × (number_of new ≡ number_of old)
+
+-- what the calls did to the shelf, the notes and the segments' numbers, by the answer
+abbrev pub CallsMade : Option SegOptions → List ShelfCall → FaultAt → Bool → JobView → Answer → JobView → Type 0
+CallsMade seg calls at writing old answer.Done new =
     Completed calls old.shelf new.shelf × (new.shelf.writing ≡ writing)
     × (new.faults ≡ old.faults) × (new.fault_places ≡ old.fault_places)
-CallsMade calls at writing old answer.Fault new =
-    Stopped calls 0 old.shelf new.shelf × (new.shelf.writing ≡ false)
+    × (number_of new ≡ number_after seg (number_of old) calls)
+CallsMade seg calls at writing old answer.Fault new =
+    (stop : Stopped calls 0 old.shelf new.shelf) × (new.shelf.writing ≡ false)
     × (new.faults ≡ old.faults ++ note_at old at new ∷ []) × (new.fault_places + 1 ≡ old.fault_places) × Rose old.shelf.faults new.shelf.faults
-CallsMade calls at writing old answer.NoMemory new =
-    Stopped calls 0 old.shelf new.shelf × (new.shelf.writing ≡ false)
-    × (new.faults ≡ old.faults) × (new.fault_places ≡ old.fault_places) × Rose old.shelf.wants new.shelf.wants
+    × (number_of new ≡ number_after seg (number_of old) (called stop))
+CallsMade seg calls at writing old answer.NoMemory new = ShelfWants seg calls old new ⊎ ListWants seg old new
 
 -- a muxer's call was made, and a fault of it noted
 pub record Calls (g : Origin) (calls : List ShelfCall) (at : FaultAt) (old : JobView) (a : Answer) (new : JobView) : Type 0 where
-  pub made : CallsMade calls at true old a new
+  pub made : CallsMade g.seg calls at true old a new
   pub counts : old.shelf.faults ≤ new.shelf.faults
   pub want_counts : old.shelf.wants ≤ new.shelf.wants
   pub sound : SoundStays old.shelf new.shelf
@@ -106,10 +127,10 @@ pub record Calls (g : Origin) (calls : List ShelfCall) (at : FaultAt) (old : Job
   pub sessions : new.sessions ≡ old.sessions
   pub session_places : new.session_places ≡ old.session_places
 
--- a packet was given to the muxer, behind those before it in the file
-pub record Puts (g : Origin) (before : List Packet) (p : Packet) (at : FaultAt) (old : JobView) (a : Answer) (new : JobView) : Type 0 where
-  pub calls : Calls g (put_calls g before p) at old a new
-  pub writer : a ≡ answer.Done → WriterAfter g (before ++ p ∷ []) new.kit.writer
+-- a packet was given to the muxer, behind those before it in the session, of which the first segment has that number
+pub record Puts (g : Origin) (first : ℕ) (before : List Packet) (p : Packet) (at : FaultAt) (old : JobView) (a : Answer) (new : JobView) : Type 0 where
+  pub calls : Calls g (put_calls g first before p) at old a new
+  pub writer : a ≡ answer.Done → WriterAfter g first (before ++ p ∷ []) new.kit.writer
 
 abbrev pub is_done : Answer → Bool
 is_done answer.Done = true
@@ -123,18 +144,18 @@ is_fault answer.NoMemory = false
 
 -- a file was begun for the session that is to be opened
 pub record Begins (g : Origin) (old : JobView) (a : Answer) (new : JobView) : Type 0 where
-  pub calls : Calls g (begin_calls g (session_in old.fifo)) Begin old a new
-  pub writer : a ≡ answer.Done → WriterAfter g [] new.kit.writer
+  pub calls : Calls g (begin_calls g (number_of old) (session_in old.fifo)) Begin old a new
+  pub writer : a ≡ answer.Done → WriterAfter g (number_of old) [] new.kit.writer
 
 -- a session was opened, and its note made
 pub record Opens (g : Origin) (old : JobView) (a : Answer) (new : JobView) : Type 0 where
-  pub made : CallsMade (begin_calls g (session_in old.fifo)) Begin true old a new
+  pub made : CallsMade g.seg (begin_calls g (number_of old) (session_in old.fifo)) Begin true old a new
   pub counts : old.shelf.faults ≤ new.shelf.faults
   pub want_counts : old.shelf.wants ≤ new.shelf.wants
   pub sound : SoundStays old.shelf new.shelf
   pub safe : old.shelf.sound ≡ true → a ≡ answer.Fault → ⊥
   pub kit : KitOf g new.kit
-  pub writer : a ≡ answer.Done → WriterAfter g [] new.kit.writer
+  pub writer : a ≡ answer.Done → WriterAfter g (number_of old) [] new.kit.writer
   pub fifo : new.fifo ≡ old.fifo
   pub runs : new.runs ≡ old.runs
   pub run_places : new.run_places ≡ old.run_places
@@ -172,7 +193,7 @@ pub record Settles (i : ℕ) (f : Fate) (old new : JobView) : Type 0 where
 -- a session was opened and the packet written, or the opening was refused
 abbrev pub OpensAndPuts : Origin → Packet → FaultAt → JobView → Answer → JobView → Type 0
 OpensAndPuts g p at old a new =
-    ((mid : JobView) × Opens g old answer.Done mid × Puts g [] p at mid a new) ⊎ ((is_done a ≡ false) × Opens g old a new)
+    ((mid : JobView) × Opens g old answer.Done mid × Puts g (number_of old) [] p at mid a new) ⊎ ((is_done a ≡ false) × Opens g old a new)
 
 -- there is room for the run of this fate, or it was refused; the first run has its place from the start
 pub record MakesRoom (i : ℕ) (f : Fate) (old : JobView) (granted : Bool) (new : JobView) : Type 0 where
@@ -195,9 +216,9 @@ ClosesLast answer.Done old new =
 ClosesLast answer.Fault old new = new ≡ old
 ClosesLast answer.NoMemory old new = new ≡ old
 
--- the muxer's end was called
-pub record Closes (g : Origin) (before : List Packet) (old : JobView) (a : Answer) (new : JobView) : Type 0 where
-  pub made : CallsMade (end_calls g before) End false old a new
+-- the muxer's end was called, which begins no segment
+pub record Closes (g : Origin) (first : ℕ) (before : List Packet) (old : JobView) (a : Answer) (new : JobView) : Type 0 where
+  pub made : CallsMade None (end_calls g first before) End false old a new
   pub counts : old.shelf.faults ≤ new.shelf.faults
   pub want_counts : old.shelf.wants ≤ new.shelf.wants
   pub sound : SoundStays old.shelf new.shelf

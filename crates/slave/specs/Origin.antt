@@ -2,6 +2,7 @@
 use Rattle.std.specs.Prelude.{ℕ, ◌==◌, if◌then◌else◌, List, [], ◌∷◌, ◌++◌, Option, Some, None}
 use Rattle.std.specs.Fmt.{decimal}
 use Rattle.fifo_core.specs.declared.types.PacketFacts.{PacketFacts}
+use Rattle.playlist.specs.declared.seg_options.SegOptions.{SegOptions}
 use Rattle.rmx_edge.specs.Shelf.{ShelfState}
 use Rattle.rmx_media.specs.declared.packet.Format.{Format}
 use Rattle.rmx_media.specs.declared.packet.Packet.{Packet}
@@ -16,6 +17,8 @@ pub record Origin : Type 0 where
   pub shelf : ShelfState
   pub name : List ℕ
   pub format : Format
+  -- how it is cut into segments, where that is its format; its name is a template then
+  pub seg : Option SegOptions
   pub streams : MuxStreams
 
 -- the name of a session: that of the output, and from session 1 on a tilde and the number behind it

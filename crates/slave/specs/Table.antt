@@ -19,12 +19,14 @@ use Rattle.rmx_edge.specs.Shelf.{ShelfState, ShelfCall}
 use Rattle.rmx_edge.specs.Run.{Completed, Stopped}
 use Rattle.rmx_media.specs.declared.packet.Packet.{Packet}
 use Rattle.rmx_media.specs.Fits.{Fits}
+use Rattle.segmenter.specs.Numbers.{called}
 use Rattle.slave.specs.declared.records.SessionNote.{SessionNote}
 use Rattle.slave.specs.declared.records.FaultAt.{FaultAt}
 use Rattle.slave.specs.declared.records.FaultAt.TheVariants.{Begin, Put, End}
 use Rattle.slave.specs.declared.records.FaultNote.{FaultNote}
 use Rattle.slave.specs.Origin.{Origin, facts_of}
-use Rattle.slave.specs.Calls.{begin_calls, put_calls, end_calls, puts}
+use Rattle.slave.specs.Segments.{file_format, start_of, asks_list, number_after}
+use Rattle.slave.specs.Calls.{begin_calls, put_calls, end_calls, puts, number_in}
 use Rattle.slave.specs.declared.records.Run.{Run}
 use Rattle.slave.specs.Given.{Given, Sent, Swept, index_of, turn_of, end_from, Gives, sent_from, IsGapless}
 use Rattle.slave.specs.Runs.{expand, pushed, Joins, AreInOrder}
@@ -33,6 +35,8 @@ use Rattle.slave.specs.Job.{JobView, KitOf, Writer, WriterAfter, SoundStays, is_
 -- how a session stands
 pub data Outcome : Type 0 where
   Open : Outcome
+  -- memory for its list was wanted before any of its calls
+  NotCalled : Outcome
   NotBegun : Outcome
   PutFailed : (index : ℕ) → Packet → Outcome
   EndFailed : Outcome
@@ -46,40 +50,54 @@ pub record Row : Type 0 where
   pub written : List Packet
   pub before : ShelfState
   pub after : ShelfState
+  -- the number of its first segment, and that of the next segment after it
+  pub first : ℕ
+  pub next : ℕ
 
 -- the calls of `begin` and of the packets
 abbrev pub calls_of : Origin → Row → List ShelfCall
-calls_of g r = begin_calls g r.note.number ++ puts g r.written
+calls_of g r = begin_calls g r.first r.note.number ++ puts g r.first r.written
 
 -- the packet stands at this place of a list
 abbrev pub StandsAt : List Packet → ℕ → Packet → Type 0
 StandsAt L i p = slice_get L i ≡ Some p
 
--- What a session left, where packets have indices by this relation. A note says that it was closed exactly where it was.
+-- the calls that were made took so many numbers
+abbrev pub Numbers : Origin → Row → List ShelfCall → Type 0
+Numbers g r made = r.next ≡ number_after g.seg r.first made
+
+-- What a session left, where packets have indices by this relation. A note says that it was closed exactly where it was. Each
+-- segment that was created took a number, also where that was refused; the list, which is written at a session's end, takes none.
 abbrev pub LeftBy : Origin → (ℕ → Packet → Type 0) → Row → Outcome → Type 0
-LeftBy g At r Open = (r.note.begun ≡ true) × (r.note.closed ≡ false) × Completed (calls_of g r) r.before r.after
+LeftBy g At r Open = (r.note.begun ≡ true) × (r.note.closed ≡ false) × Completed (calls_of g r) r.before r.after × Numbers g r (calls_of g r)
+LeftBy g At r NotCalled =
+    (r.note.begun ≡ false) × (r.note.closed ≡ false) × (r.written ≡ []) × (asks_list g.seg ≡ true) × (r.after ≡ r.before) × (r.next ≡ r.first)
 LeftBy g At r NotBegun =
-    (r.note.begun ≡ false) × (r.note.closed ≡ false) × (r.written ≡ []) × Stopped (begin_calls g r.note.number) 0 r.before r.after
+    (r.note.begun ≡ false) × (r.note.closed ≡ false) × (r.written ≡ [])
+    × (stop : Stopped (begin_calls g r.first r.note.number) 0 r.before r.after) × Numbers g r (called stop)
 LeftBy g At r (PutFailed i p) =
     (r.note.begun ≡ true) × (r.note.closed ≡ false) × At i p
-    × Stopped (calls_of g r ++ put_calls g r.written p) (length (calls_of g r)) r.before r.after
+    × (stop : Stopped (calls_of g r ++ put_calls g r.first r.written p) (length (calls_of g r)) r.before r.after) × Numbers g r (called stop)
 LeftBy g At r EndFailed =
     (r.note.begun ≡ true) × (r.note.closed ≡ false)
-    × Stopped (calls_of g r ++ end_calls g r.written) (length (calls_of g r)) r.before r.after
+    × Stopped (calls_of g r ++ end_calls g r.first r.written) (length (calls_of g r)) r.before r.after × Numbers g r (calls_of g r)
 LeftBy g At r Closed =
-    (r.note.begun ≡ true) × (r.note.closed ≡ true) × Completed (calls_of g r ++ end_calls g r.written) r.before r.after
+    (r.note.begun ≡ true) × (r.note.closed ≡ true) × Completed (calls_of g r ++ end_calls g r.first r.written) r.before r.after
+    × Numbers g r (calls_of g r)
 
 -- the call at which a session ended is that of its note
 abbrev pub IsAt : Outcome → FaultAt → Type 0
 IsAt Open at = ⊥
+IsAt NotCalled at = ⊥
 IsAt NotBegun at = at ≡ Begin
 IsAt (PutFailed i p) at = at ≡ Put i
 IsAt EndFailed at = at ≡ End
 IsAt Closed at = ⊥
 
--- a session that a call ended
+-- a session that a call of the shelf ended
 abbrev pub stopped : Outcome → Bool
 stopped Open = false
+stopped NotCalled = false
 stopped NotBegun = true
 stopped (PutFailed i p) = true
 stopped EndFailed = true
@@ -102,6 +120,11 @@ AllRows g At (r ∷ rs) = RowHolds g At r × AllRows g At rs
 abbrev pub Chain : ShelfState → List Row → ShelfState → Type 0
 Chain first [] now = first ≡ now
 Chain first (r ∷ rs) now = (r.before ≡ first) × Chain r.after rs now
+
+-- the segments of a session are numbered on from those of the session before it, and from `number` on
+abbrev pub GoesOnFrom : ℕ → List Row → ℕ → Type 0
+GoesOnFrom number [] next = number ≡ next
+GoesOnFrom number (r ∷ rs) next = (r.first ≡ number) × GoesOnFrom r.next rs next
 
 abbrev pub row_note : Row → SessionNote
 row_note r = r.note
@@ -167,7 +190,7 @@ pub record LastRow (g : Origin) (o : FifoOptions) (h : History) (writer : Writer
   pub last : Row
   pub split : rows ≡ front ++ last ∷ []
   pub number : last.note.number ≡ session_of h
-  pub is_open : wanted h ≡ false → mode_of o h ≡ Live → (last.outcome ≡ Open) × WriterAfter g last.written writer
+  pub is_open : wanted h ≡ false → mode_of o h ≡ Live → (last.outcome ≡ Open) × WriterAfter g last.first last.written writer
 
 -- What is recorded agrees with this history of what was given. The packets ahead were written, and their fates are not yet recorded.
 pub record Table (g : Origin) (o : FifoOptions) (T : List Given) (h : History) (ahead : List (ℕ × Packet))
@@ -178,6 +201,7 @@ pub record Table (g : Origin) (o : FifoOptions) (T : List Given) (h : History) (
   pub are_sessions : sessions ≡ map row_note rows
   pub are_faults : faults ≡ filter_map row_fault rows
   pub chain : Chain g.shelf rows shelf
+  pub segments : GoesOnFrom (start_of g.seg) rows (number_in writer.mux)
   pub each : AllRows g (Gives T) rows
   pub packets : flat_map row_packets rows ≡ written_among T (fates_of h) ++ ahead
   pub fates : expand runs ≡ covered h
@@ -185,9 +209,10 @@ pub record Table (g : Origin) (o : FifoOptions) (T : List Given) (h : History) (
   pub writing : wanted h ≡ false → shelf.writing ≡ mode_is_live (mode_of o h)
   pub sound : SoundStays g.shelf shelf
   pub safe : g.shelf.sound ≡ true → faults ≡ []
-  -- where nothing was refused or flushed, the count of wants rose where memory was wanted and no fault was noted
+  -- where nothing was refused or flushed and no list is asked for, the count of wants rose where memory was wanted and no fault was
+  -- noted
   pub wants : g.shelf.wants ≤ shelf.wants
-  pub excuse : IsGapless T → wanted h ≡ true → faults ≡ [] → Rose g.shelf.wants shelf.wants
+  pub excuse : asks_list g.seg ≡ false → IsGapless T → wanted h ≡ true → faults ≡ [] → Rose g.shelf.wants shelf.wants
 
 -- the packets come one after another, from the n-th on
 abbrev pub turns_from : Origin → ℕ → List Packet → List Turn
@@ -311,9 +336,9 @@ pub record Concludes (g : Origin) (o : FifoOptions) (T : List Given) (i : ℕ) (
   pub finished : Finished o h i (facts_of g p) a new
   pub stands : Stands g o (T ++ Sent i p ∷ []) new v
 
--- the packet fits its output
+-- the packet fits the files of its output
 abbrev pub Takes : Origin → Packet → Type 0
-Takes g p = Fits g.format g.streams p
+Takes g p = Fits (file_format g.format g.seg) g.streams p
 
 -- The job stands there and is given this with what came before it, and there is room for the run that this fate may need.
 pub record Primed (g : Origin) (o : FifoOptions) (T : List Given) (t : Given) (f : Fate) (h : History) (v : JobView) : Type 0 where

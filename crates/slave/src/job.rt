@@ -1,5 +1,5 @@
 // One output. Every place for a record is reserved before the calls of the turn that may need it.
-ghost use Rattle.std.specs.Prelude.{◌≡◌, ◌+◌, ◌-◌, ◌≤◌, ◌<◌, ◌∷◌, ◌++◌, ◌⊎◌, [], true, false, ◌^◌, ℕ, Some, None, IsSome, List, length, IfOk, IfErr, string_bytes};
+ghost use Rattle.std.specs.Prelude.{◌≡◌, ◌+◌, ◌-◌, ◌≤◌, ◌<◌, ◌∷◌, ◌++◌, ◌⊎◌, [], true, false, ◌^◌, ℕ, Some, None, IsSome, List, Option, length, IfOk, IfErr, string_bytes};
 ghost use Rattle.fifo_core.specs.State.{session_in, Shows, hand_of, next_of};
 ghost use Rattle.fifo_core.specs.History.{History, action_of, flush_of, mode_of, mode_is_live, mode_is_dead};
 ghost use Rattle.fifo_core.specs.declared.types.FifoOptions.{FifoOptions};
@@ -9,6 +9,7 @@ ghost use Rattle.rmx_media.specs.Streams.{CanMux};
 ghost use Rattle.rmx_media.specs.declared.packet.Format.{Format};
 ghost use Rattle.rmx_media.specs.declared.packet.Packet.{Packet};
 ghost use Rattle.rmx_media.specs.declared.streams.MuxStreams.{MuxStreams};
+ghost use Rattle.playlist.specs.declared.seg_options.SegOptions.{SegOptions};
 ghost use Rattle.slave.specs.Calls.{IsBuilt};
 ghost use Rattle.slave.specs.Origin.{Origin, facts_of, session_name as session_in_name};
 ghost use Rattle.slave.specs.Given.{Given, Sent, Swept, end_from};
@@ -21,11 +22,12 @@ use crate::kit::SlaveKit;
 use crate::mux::Mux;
 use crate::name::session_name;
 use crate::places::Places;
-use crate::records::{FaultAt, FaultNote, Run, SessionNote};
+use crate::records::{FaultAt, FaultNote, LaneNote, Run, SessionNote};
 use crate::runs::{add_fate, joins};
 use crate::watched::Watched;
 use arrayvec::ArrayString;
 use fifo_core::{Action, After, Answer, EndState, Fate, FifoOptions, FifoState, PacketFacts};
+use playlist::SegOptions;
 use rmx_edge::{Counted, Shelf, ShelfFault};
 use rmx_media::{Format, Items, MuxStreams, NoMemory, Packet, is_restart};
 use std::alloc::Global;
@@ -56,6 +58,8 @@ pub struct SlaveEnd<S> {
     pub state: EndState,
     /// Whether it was to have a thread and had none.
     pub inline: bool,
+    /// Its queue, if it had one.
+    pub lane: Option<LaneNote>,
     /// The bytes of all accepted writes, at most 2^64 - 1.
     pub bytes: u64,
 }
@@ -67,25 +71,26 @@ impl<S: Shelf> SlaveJob<S> {
     ghost use Rattle.slave.specs.Prepared.{IsPrepared};
     ghost use Rattle.slave.specs.End.{EndedBy, EndedAllBy, IsUnclosed, end_view};
 
-    /// It reserves places for two runs, of which one is for want of memory alone, a session and a fault. A refusal hands the
-    /// shelf back.
+    /// It reserves places for two runs, of which one is for want of memory alone, a session and a fault. `seg` is there exactly
+    /// where the format is Segment, and the name is a template then. A refusal hands the shelf back.
     pub fn new(
         alloc: Global,
         name: String,
         format: Format,
+        seg: Option<SegOptions>,
         options: FifoOptions,
         streams: MuxStreams,
         shelf: S,
     ) -> Result<SlaveJob<S>, (S, NoMemory)>
         requires idle { (S.state shelf).writing ≡ false }
         requires short { length (string_bytes name) ≤ 200 }
-        requires built { IsBuilt format }
+        requires built { IsBuilt format seg (string_bytes name) }
         requires streams { CanMux streams }
         ensures fresh { IfOk result (λ job.
-            IsFresh (record { shelf = with_count (S.state shelf) 0 0; name = string_bytes name; format = format; streams = streams }) options (view_of S.state job)) }
+            IsFresh (record { shelf = with_count (S.state shelf) 0 0; name = string_bytes name; format = format; seg = seg; streams = streams }) options (view_of S.state job)) }
         ensures back { IfErr result (λ e. e.0 ≡ shelf) }
     {
-        match SlaveKit::new(alloc, name, format, options, streams) {
+        match SlaveKit::new(alloc, name, format, seg, options, streams) {
             Ok(kit) => Ok(SlaveJob::with_kit(kit, shelf)),
             Err(refused) => Err((shelf, refused)),
         }
@@ -94,8 +99,8 @@ impl<S: Shelf> SlaveJob<S> {
     /// The output on its shelf. It takes no memory.
     pub fn with_kit(kit: SlaveKit, shelf: S) -> SlaveJob<S>
         requires idle { (S.state shelf).writing ≡ false }
-        ensures fresh { (name : List ℕ) (format : Format) (o : FifoOptions) (streams : MuxStreams) → IsPrepared name format o streams kit
-            → IsFresh (record { shelf = with_count (S.state shelf) 0 0; name = name; format = format; streams = streams }) o (view_of S.state result) }
+        ensures fresh { (name : List ℕ) (format : Format) (seg : Option SegOptions) (o : FifoOptions) (streams : MuxStreams) → IsPrepared name format seg o streams kit
+            → IsFresh (record { shelf = with_count (S.state shelf) 0 0; name = name; format = format; seg = seg; streams = streams }) o (view_of S.state result) }
     {
         let SlaveKit {
             name,
@@ -151,6 +156,13 @@ impl<S: Shelf> SlaveJob<S> {
         self.fifo.is_dead()
     }
 
+    /// How many packets may wait for the output.
+    pub fn queue_size(&self) -> u32
+        ensures { (g : Origin) (o : FifoOptions) (T : List Given) → KeepsAll g o T (view_of S.state self.now) → result ≡ o.queue_size }
+    {
+        self.fifo.queue_size()
+    }
+
     // What the machine is told of a packet.
     fn facts(&self, p: &Packet) -> PacketFacts
         ensures { (g : Origin) → KitOf g (view_of S.state self.now).kit → result ≡ facts_of g p.now }
@@ -166,8 +178,8 @@ impl<S: Shelf> SlaveJob<S> {
         requires writing { (view_of S.state self.old).shelf.writing ≡ true }
         requires place { 1 ≤ (view_of S.state self.old).fault_places }
         requires fits { (g : Origin) × KitOf g (view_of S.state self.old).kit × Takes g p.now }
-        ensures { (g : Origin) (before : List Packet) → KitOf g (view_of S.state self.old).kit → WriterAfter g before (view_of S.state self.old).kit.writer → Takes g p.now
-            → Puts g before p.now (FaultAt.Put index) (view_of S.state self.old) result (view_of S.state self.new) }
+        ensures { (g : Origin) (first : ℕ) (before : List Packet) → KitOf g (view_of S.state self.old).kit → WriterAfter g first before (view_of S.state self.old).kit.writer → Takes g p.now
+            → Puts g first before p.now (FaultAt.Put index) (view_of S.state self.old) result (view_of S.state self.new) }
     {
         let before = self.shelf.fault_count();
         let session = self.fifo.session();
@@ -448,8 +460,8 @@ impl<S: Shelf> SlaveJob<S> {
         requires place { 1 ≤ (view_of S.state self.old).fault_places }
         requires begun { 0 < length (view_of S.state self.old).sessions }
         requires kit { (g : Origin) × KitOf g (view_of S.state self.old).kit }
-        ensures { (g : Origin) (before : List Packet) → KitOf g (view_of S.state self.old).kit → WriterAfter g before (view_of S.state self.old).kit.writer
-            → Closes g before (view_of S.state self.old) result (view_of S.state self.new) }
+        ensures { (g : Origin) (first : ℕ) (before : List Packet) → KitOf g (view_of S.state self.old).kit → WriterAfter g first before (view_of S.state self.old).kit.writer
+            → Closes g first before (view_of S.state self.old) result (view_of S.state self.new) }
     {
         let before = self.shelf.fault_count();
         let session = self.fifo.session();
@@ -507,6 +519,7 @@ impl<S: Shelf> SlaveJob<S> {
         ensures faults { result.faults.items ≡ self.faults.items }
         ensures state { result.state ≡ state }
         ensures inline { result.inline ≡ false }
+        ensures lane { result.lane ≡ None }
         ensures bytes { result.bytes ≡ bytes_of (watched self.shelf) }
     {
         let bytes = self.shelf.shelf().bytes();
@@ -527,6 +540,7 @@ impl<S: Shelf> SlaveJob<S> {
             faults: faults.into_items(),
             state,
             inline: false,
+            lane: None,
             bytes,
         }
     }

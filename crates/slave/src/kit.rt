@@ -8,6 +8,7 @@ use crate::mux::Mux;
 use crate::places::Places;
 use crate::records::{FaultNote, Run, SessionNote};
 use fifo_core::{FifoOptions, FifoState};
+use playlist::SegOptions;
 use rmx_media::{Format, Kind, MuxStreams, NoMemory};
 use std::alloc::Global;
 
@@ -27,18 +28,19 @@ pub struct SlaveKit {
 impl SlaveKit {
     ghost use Rattle.slave.specs.Prepared.{IsPrepared};
 
-    /// Takes the memory.
+    /// Takes the memory. `seg` is there exactly where the format is Segment, and the name is a template then.
     pub fn new(
         alloc: Global,
         name: String,
         format: Format,
+        seg: Option<SegOptions>,
         options: FifoOptions,
         streams: MuxStreams,
     ) -> Result<SlaveKit, NoMemory>
         requires short { length (string_bytes name) ≤ 200 }
-        requires built { IsBuilt format }
+        requires built { IsBuilt format seg (string_bytes name) }
         requires streams { CanMux streams }
-        ensures prepared { IfOk result (λ kit. IsPrepared (string_bytes name) format options streams kit) }
+        ensures prepared { IfOk result (λ kit. IsPrepared (string_bytes name) format seg options streams kit) }
     {
         let mut runs = Places::new(alloc);
         let mut sessions = Places::new(alloc);
@@ -47,10 +49,11 @@ impl SlaveKit {
         sessions.reserve(1)?;
         faults.reserve(1)?;
         let video = video_of(&streams);
+        let mux = Mux::new(alloc, name.as_str(), format, seg, streams);
         Ok(SlaveKit {
             name,
             video,
-            mux: Mux::new(format, streams),
+            mux,
             fifo: FifoState::new(options),
             runs,
             sessions,

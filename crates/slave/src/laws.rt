@@ -1,7 +1,11 @@
 // What holds of every end of an output.
 ghost use Rattle.slave.specs.Accounts.{EndsMeetAccounts};
+ghost use Rattle.slave.specs.AccountsAll.{EndsMeetAllAccounts};
 ghost use Rattle.slave.specs.End.{GivenUpStaysSo, SoundNeverFails};
+ghost use Rattle.slave.specs.Handed.{HandsOver, LanesDeal};
 ghost use Rattle.slave.specs.Headline.{NoFaultNoLoss};
+ghost use Rattle.slave.specs.LaneAccounts.{LossIsBounded, UnrefusedFollow};
+ghost use Rattle.slave.specs.WorkerDeals.{WorkersPassOn};
 
 /// An output whose shelf's counts of faults and wants didn't rise is closed and holds its file over all packets.
 pub fn no_fault_no_loss()
@@ -13,6 +17,11 @@ pub fn ends_meet_accounts()
     ensures { EndsMeetAccounts }
 {}
 
+/// The same where packets were refused or flushed, over all that the output was given.
+pub fn ends_meet_all_accounts()
+    ensures { EndsMeetAllAccounts }
+{}
+
 /// An output that was given up stays so, and it isn't closed at its end.
 pub fn given_up_stays_so()
     ensures { GivenUpStaysSo }
@@ -21,4 +30,30 @@ pub fn given_up_stays_so()
 /// On a sound shelf an output isn't given up, and it is closed unless memory was wanted.
 pub fn sound_never_fails()
     ensures { SoundNeverFails }
+{}
+
+/// Behind a lane, refused and flushed packets together are at most as many as its refusals, each counted once and as often as
+/// packets may wait.
+pub fn loss_is_bounded()
+    ensures { LossIsBounded }
+{}
+
+/// What a lane was offered is known packet by packet: each is given, or refused with a receipt.
+pub fn lanes_hand_over()
+    ensures { HandsOver }
+{}
+
+/// Where an output was given what its lane gave, the lane dealt all packets: each was given or refused.
+pub fn lanes_deal()
+    ensures { LanesDeal }
+{}
+
+/// A worker passes on what it got, and what it flushes comes in stretches.
+pub fn workers_pass_on()
+    ensures { WorkersPassOn }
+{}
+
+/// Of the packets of a lane that were not refused, each has the fate that it had in its turn.
+pub fn unrefused_follow()
+    ensures { UnrefusedFollow }
 {}

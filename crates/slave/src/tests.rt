@@ -1,6 +1,6 @@
 // Outputs over small shelves, by worked examples. An output of audio is ADTS, and its packets are one byte of AAC each: 21, 22,
 // 23 and so on. One of video is MPEG-TS; its packets are one unit each, and every second one is a key packet, from the first on.
-ghost use Rattle.std.specs.Prelude.{◌≡◌, ◌<◌, ◌^◌, length, Some, None, IfOk, true, false, OnOk};
+ghost use Rattle.std.specs.Prelude.{◌≡◌, ◌<◌, ◌^◌, ℕ, List, length, Some, None, IfOk, true, false, OnOk};
 ghost use Rattle.rmx_media.specs.declared.packet.Format.TheVariants as format;
 ghost use Rattle.rmx_media.specs.declared.streams.Kind.TheVariants.{Audio, Video};
 ghost use Rattle.rmx_media.specs.Config.{IsAsRead, kind_of};
@@ -15,10 +15,11 @@ ghost use Rattle.slave.specs.Sample.{format_for};
 use crate::{FaultAt, FaultNote, Run, SessionNote, SlaveEnd, SlaveJob};
 use bytes::Bytes;
 use fifo_core::{EndState, Fate, FifoOptions};
+use playlist::{ListKind, SegOptions, Template};
 use rmx_edge::{FailAt, MemShelf, Shelf, ShelfFault};
 use rmx_media::{
-    Config, Form, Format, Items, Kind, MuxStream, MuxStreams, Packet, StreamInfo, read_aac_config,
-    read_avc_config,
+    Config, Form, Format, Items, Kind, MuxStream, MuxStreams, Packet, StreamInfo, Text,
+    read_aac_config, read_avc_config,
 };
 use std::alloc::Global;
 use std::test::Fail;
@@ -52,7 +53,8 @@ const AVC: [u8; 17] = [
 const AAC: [u8; 2] = [0x12, 0x10];
 
 fn format(kind: Kind) -> Format
-    ensures { result ≡ format_for kind }
+    ensures format { result ≡ format_for kind }
+    ensures built { (name : List ℕ) → IsBuilt result None name }
 {
     match kind {
         Kind::Audio => Format::Adts,
@@ -160,7 +162,7 @@ fn written<S: Shelf + Drop>(
 {
     let name = String::from_str(alloc, "a")?;
     let streams = streams(alloc, kind)?;
-    let mut job = match SlaveJob::new(alloc, name, format(kind), options, streams, shelf) {
+    let mut job = match SlaveJob::new(alloc, name, format(kind), None, options, streams, shelf) {
         Ok(job) => job,
         Err((_, refused)) => return Err(Fail::from(refused)),
     };
@@ -613,7 +615,7 @@ fn given<S: Shelf + Drop>(
 {
     let name = String::from_str(alloc, "a")?;
     let streams = streams(alloc, kind)?;
-    let mut job = match SlaveJob::new(alloc, name, format(kind), RESTARTS, streams, shelf) {
+    let mut job = match SlaveJob::new(alloc, name, format(kind), None, RESTARTS, streams, shelf) {
         Ok(job) => job,
         Err((_, refused)) => return Err(Fail::from(refused)),
     };
@@ -674,5 +676,79 @@ fn memory_is_wanted_for_good(rt: HostRuntime) -> Result<(), Fail> {
     let fates = [run(Fate::Written(0), 0, 1), run(Fate::NoMemory, 2, 8)];
     assert_eq!(rt; end.fates.as_slice(), fates.as_slice());
     assert!(rt; end.faults.as_slice().is_empty());
+    Ok(())
+}
+
+// Segments of audio of two seconds, from that number on, and their list.
+fn two_seconds(alloc: Global, start: u64) -> Result<SegOptions, Fail>
+    ensures { IfOk result (λ seg. seg.inner ≡ format.Adts) }
+{
+    Ok(SegOptions {
+        inner: Format::Adts,
+        time_us: 2_000_000,
+        list: Some(Text::of(alloc, "l")?),
+        list_kind: ListKind::Flat,
+        start,
+        reset: false,
+        any_packet: false,
+    })
+}
+
+// An output of them: a packet at each of these times.
+fn segmented(
+    alloc: Global,
+    start: u64,
+    times: &[u16],
+    shelf: MemShelf,
+) -> Result<SlaveEnd<MemShelf>, Fail>
+    requires idle { (state_of shelf).writing ≡ false }
+    requires few { length times.now < 2 ^ 61 }
+{
+    let seg = two_seconds(alloc, start)?;
+    let name = String::from_str(alloc, "s%d.aac")?;
+    let Some(_) = Template::parse(name.as_str()) else {
+        return Err(Fail::new("no template"));
+    };
+    let streams = streams(alloc, Kind::Audio)?;
+    let format = Format::Segment;
+    let mut job = match SlaveJob::new(alloc, name, format, Some(seg), RECOVERS, streams, shelf) {
+        Ok(job) => job,
+        Err((_, refused)) => return Err(Fail::from(refused)),
+    };
+    job.start();
+    let mut index = 0;
+    for time in times {
+        let p = packet(alloc, Kind::Audio, *time, index)?;
+        job.write_direct(index, &p);
+        index += 1;
+    }
+    Ok(job.finish_direct())
+}
+
+// Calls 0 to 3 write the first segment, and 4 to 7 the second one. Where one of them fails, the packet is written again in a
+// session of its own, whose segments are numbered on, also where the refused call was a create; its list names them alone.
+#[test]
+fn segments_are_numbered_on(rt: HostRuntime) -> Result<(), Fail> {
+    for (call, names, list) in [
+        (3, ["s7.aac", "s8.aac", "l"].as_slice(), "s8.aac\n"),
+        (4, ["s7.aac", "s9.aac", "l"].as_slice(), "s9.aac\n"),
+        (
+            5,
+            ["s7.aac", "s8.aac", "s9.aac", "l"].as_slice(),
+            "s9.aac\n",
+        ),
+        (9, ["s7.aac", "s8.aac", "l"].as_slice(), "s7.aac\n"),
+        (99, ["s7.aac", "s8.aac", "l"].as_slice(), "s7.aac\ns8.aac\n"),
+    ] {
+        let shelf = failing(rt.alloc(), &[call], 7)?;
+        let end = segmented(rt.alloc(), 7, &[0, 2000], shelf)?;
+        assert_eq!(rt; end.shelf.take_count(), names.len());
+        for (at, name) in names.iter().enumerate() {
+            assert_eq!(rt; end.shelf.take_name(at), *name);
+            if at + 1 == names.len() {
+                assert_eq!(rt; end.shelf.take_bytes(at), list.as_bytes());
+            }
+        }
+    }
     Ok(())
 }

@@ -1,7 +1,7 @@
 use Rattle.std.proofs.Common.{inl, inr, refl}
 use Rattle.fifo_core.specs.declared.types.Action.TheVariants as action
 use Rattle.slave.specs.Job.{view_of}
-use Rattle.slave.proofs.Turns.{opened_holds, put_holds, put_after, put_writing, written_before, primed_writes, primed_retries, primed_settles, settle_place, concludes_acts, with_fifo, retry_idle}
+use Rattle.slave.proofs.Turns.{opened_holds, put_holds, put_after, put_writing, written_before, first_in, primed_writes, primed_retries, primed_settles, settle_place, concludes_acts, with_fifo, retry_idle}
 use Rattle.slave.proofs.job.SlaveJob.act.Goals as goal
 
 pub settle-requires-clause-place : goal.settle-requires-clause-place
@@ -79,7 +79,7 @@ conclude-requires-clause-ready g c =
     let t = rw f at (c.in-Write.ensures.turn r.1 r.3 r.4.shows) in
     let n = c.in-Write.ensures.next in
     let w = primed_writes (view_of g.S.Shelf.state c.args.self.now) (with_fifo (view_of g.S.Shelf.state c.args.self.now) c.on_packet.new.self) r.4 a t n refl refl refl refl refl refl refl in
-    (r.0, r.1, r.2, r.3, put_holds c.put-answer.result (with_fifo (view_of g.S.Shelf.state c.args.self.now) c.on_packet.new.self) _ w (c.put-answer.ensures r.0 (written_before w) w.kit (put_after w) r.5), r.5)
+    (r.0, r.1, r.2, r.3, put_holds c.put-answer.result (with_fifo (view_of g.S.Shelf.state c.args.self.now) c.on_packet.new.self) _ w (c.put-answer.ensures r.0 (first_in w) (written_before w) w.kit (put_after w) r.5), r.5)
 
 pub conclude-requires-in-OpenAndWrite-clause-ready : goal.conclude-requires-in-OpenAndWrite-clause-ready
 conclude-requires-in-OpenAndWrite-clause-ready g c =
@@ -106,7 +106,7 @@ returns-in-Write g c = λ out o T h d takes.
     let t = rw f at (c.in-Write.ensures.turn o h d.shows) in
     let n = c.in-Write.ensures.next in
     let w = primed_writes (view_of g.S.Shelf.state c.args.self.now) (with_fifo (view_of g.S.Shelf.state c.args.self.now) c.on_packet.new.self) d a t n refl refl refl refl refl refl refl in
-    concludes_acts action.Write (inl refl) a (c.conclude.ensures out o T h (put_holds c.put-answer.result (with_fifo (view_of g.S.Shelf.state c.args.self.now) c.on_packet.new.self) _ w (c.put-answer.ensures out (written_before w) w.kit (put_after w) takes)) takes)
+    concludes_acts action.Write (inl refl) a (c.conclude.ensures out o T h (put_holds c.put-answer.result (with_fifo (view_of g.S.Shelf.state c.args.self.now) c.on_packet.new.self) _ w (c.put-answer.ensures out (first_in w) (written_before w) w.kit (put_after w) takes)) takes)
 
 pub returns-in-OpenAndWrite : goal.returns-in-OpenAndWrite
 returns-in-OpenAndWrite g c = λ out o T h d takes.

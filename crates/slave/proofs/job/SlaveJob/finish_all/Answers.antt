@@ -26,8 +26,8 @@ pub returns-then-is_live-clause-ended : goal.returns-then-is_live-clause-ended
 returns-then-is_live-clause-ended g c = λ out o T k.
     let b = c.is_live.ensures o k.history None k.stands.shows in
     let n = live_now k c.is_live.result c.if-is_live.true b in
-    let written = k.stands.table.last.last.written in
-    let closes = c.end-answer.ensures out written k.stands.kit (k.stands.table.last.is_open n.0 n.1).1 in
+    let last = k.stands.table.last.last in
+    let closes = c.end-answer.ensures out last.first last.written k.stands.kit (k.stands.table.last.is_open n.0 n.1).1 in
     let shows : Shows o k.history None c.end-answer.new.self.fifo = rw closes.fifo k.stands.shows in
     let i = c.into_end.ensures in
     let told : EndTells (view_of g.S.Shelf.state c.end-answer.new.self) (end_view g.S.Shelf.state c.into_end.result) = record {
@@ -39,6 +39,7 @@ returns-then-is_live-clause-ended g c = λ out o T k.
       sessions = i.sessions;
       faults = i.faults;
       inline = i.inline;
+      lane = i.lane;
     } in
     ended_live (view_of g.S.Shelf.state c.args.self) (view_of g.S.Shelf.state c.end-answer.new.self) (end_view g.S.Shelf.state c.into_end.result) k n.0 n.1 told
     c.end-answer.result closes (i.state ∙ c.on_end-state.ensures.state o k.history shows) (sym b ∙ c.if-is_live.true)
@@ -56,6 +57,7 @@ returns-else-is_live-clause-ended g c = λ out o T k.
       sessions = i.sessions;
       faults = i.faults;
       inline = i.inline;
+      lane = i.lane;
     } in
     ended_closed (view_of g.S.Shelf.state c.args.self) (end_view g.S.Shelf.state c.into_end-else-is_live.result) k c.is_live.result c.if-is_live.false b
     told (i.state ∙ c.on_end-state-else-is_live.ensures.state o k.history k.stands.shows)
@@ -64,7 +66,7 @@ pub on_end-state-requires : goal.on_end-state-requires
 on_end-state-requires g c =
     let k = c.requires.3 in
     let n = live_now k c.is_live.result c.if-is_live.true (c.is_live.ensures c.requires.1 k.history None k.stands.shows) in
-    let closes = c.end-answer.ensures c.requires.0 k.stands.table.last.last.written k.stands.kit (k.stands.table.last.is_open n.0 n.1).1 in
+    let closes = c.end-answer.ensures c.requires.0 k.stands.table.last.last.first k.stands.table.last.last.written k.stands.kit (k.stands.table.last.is_open n.0 n.1).1 in
     record { free = ap hand_of closes.fifo ∙ k.stands.shows.in_hand }
 
 pub returns-then-is_live-clause-given_up : goal.returns-then-is_live-clause-given_up

@@ -25,7 +25,7 @@ sweep-requires-else-make_room-clause-ready g c =
       r.2,
       Want ∷ r.3.history,
       wanting (Swept c.args.index c.args.number) c.flushed-expected.result _ c.make_room.result (view_of g.S.Shelf.state c.args.self.now) (view_of g.S.Shelf.state c.make_room.new.self) c.on_want.new.self k r.4 c.make_room.ensures
-          (c.on_want.ensures.turn r.1 r.3.history None shows) c.on_want.ensures.next (λ q. absurd (swept_gap r.2 c.args.index c.args.number q)),
+          (c.on_want.ensures.turn r.1 r.3.history None shows) c.on_want.ensures.next (λ n q. absurd (swept_gap r.2 c.args.index c.args.number q)),
     )
 
 pub returns-then-make_room : goal.returns-then-make_room
@@ -40,5 +40,5 @@ returns-else-make_room g c = λ out o T d later.
     let k = d.stands in
     let shows : Shows o d.history None c.make_room.new.self.fifo = rw c.make_room.ensures.fifo k.shows in
     let t = wanting (Swept c.args.index c.args.number) c.flushed-expected.result _ c.make_room.result (view_of g.S.Shelf.state c.args.self.now) (view_of g.S.Shelf.state c.make_room.new.self) c.on_want.new.self k later c.make_room.ensures
-    (c.on_want.ensures.turn o d.history None shows) c.on_want.ensures.next (λ q. absurd (swept_gap T c.args.index c.args.number q)) in
+    (c.on_want.ensures.turn o d.history None shows) c.on_want.ensures.next (λ n q. absurd (swept_gap T c.args.index c.args.number q)) in
     sweeps_on d (Want ∷ d.history) (inr refl) (c.sweep-else-make_room.ensures out o T (Want ∷ d.history) t)

@@ -11,4 +11,4 @@ put-requires-clause-fits g c =
 pub returns-in-Done : goal.returns-in-Done
 returns-in-Done g c = λ out kit takes.
     let op = c.in-Done.ensures out kit in
-    inl (view_of g.S.Shelf.state c.open.new.self, op, c.put.ensures out _ op.kit (op.writer refl) takes)
+    inl (view_of g.S.Shelf.state c.open.new.self, op, c.put.ensures out _ _ op.kit (op.writer refl) takes)

@@ -3,7 +3,7 @@ use Rattle.fifo_core.specs.State.{Shows}
 use Rattle.fifo_core.specs.History.{Begun}
 use Rattle.fifo_core.specs.declared.types.Answer.TheVariants as answer
 use Rattle.slave.specs.Job.{view_of}
-use Rattle.slave.proofs.Start.{started_done, started_want, started_fault, started_refused}
+use Rattle.slave.proofs.Opening.{started_done, started_want, started_fault, started_refused}
 use Rattle.slave.proofs.job.SlaveJob.start.Goals as goal
 
 pub returns-in-Done : goal.returns-in-Done

@@ -8,11 +8,12 @@ pub returns : goal.returns
 returns g c =
     let same = rw (← c.new-2.ensures) at c.new.ensures.state in
     record {
-      fresh = λ name format o streams k.
-          let out : Origin = record { shelf = with_count (g.S.Shelf.state c.args.shelf) 0 0; name = name; format = format; streams = streams } in
+      fresh = λ name format seg o streams k.
+          let out : Origin = record { shelf = with_count (g.S.Shelf.state c.args.shelf) 0 0; name = name; format = format; seg = seg; streams = streams } in
           record {
             shelf = same;
-            kit = record { name = k.name_is; short = k.short; counts = refl; video = k.video; mux = k.mux out refl refl };
+            kit = record { name = k.name_is; short = k.short; counts = refl; video = k.video; mux = k.mux out refl refl refl refl };
+            number = k.number;
             idle = ap (λ (s : ShelfState). s.writing) same ∙ c.requires.idle;
             shows = k.shows;
             next = k.next;

@@ -1,5 +1,5 @@
 -- What the start does to the job.
-use Rattle.std.proofs.Common.{◌≡◌, ℕ, ◌-◌, ◌≤◌, inl, inr, Bool, true, false, List, [], ◌∷◌, Some, None, refl, ap, sym, ◌∙◌, arith, if◌then◌else◌}
+use Rattle.std.proofs.Common.{◌≡◌, ℕ, ◌-◌, ◌≤◌, ◌⊎◌, inl, inr, Bool, true, false, List, [], ◌∷◌, Some, None, refl, ap, sym, ◌∙◌, arith, if◌then◌else◌}
 use Rattle.fifo_core.specs.declared.types.FifoOptions.{FifoOptions}
 use Rattle.fifo_core.specs.declared.types.Answer.{Answer}
 use Rattle.fifo_core.specs.declared.types.Answer.TheVariants as answer
@@ -9,15 +9,17 @@ use Rattle.fifo_core.specs.State.{session_in}
 use Rattle.slave.specs.declared.records.FaultAt.TheVariants.{Begin}
 use Rattle.slave.specs.Origin.{Origin}
 use Rattle.slave.proofs.CallsLemmas.{no_puts}
-use Rattle.slave.specs.Job.{JobView, note_at, Opens}
-use Rattle.slave.specs.Table.{Open, NotBegun, Row, Table}
+use Rattle.slave.specs.Job.{JobView, note_at, number_of, Opens, ShelfWants, ListWants}
+use Rattle.slave.specs.Segments.{asks_list}
+use Rattle.slave.specs.Calls.{begin_calls}
+use Rattle.slave.specs.Table.{Open, NotCalled, NotBegun, Row, Table}
 use Rattle.fifo_core.specs.declared.state.FifoState.{FifoState}
 use Rattle.fifo_core.specs.State.{Shows, next_of}
 use Rattle.slave.specs.Table.{Keeps}
 use Rattle.rmx_edge.proofs.Run.{rose_later}
 use Rattle.slave.specs.declared.records.Run.{Run}
 use Rattle.slave.specs.Runs.{AreInOrder}
-use Rattle.slave.proofs.Steps.{want_now, not_live, not_empty}
+use Rattle.slave.proofs.Steps.{want_now, not_live, not_empty, both_lists}
 use Rattle.slave.specs.Fresh.{IsFresh}
 use Rattle.slave.specs.Job.{Asks}
 use Rattle.slave.proofs.Turns.{with_fifo}
@@ -32,11 +34,56 @@ begun_shut o = begun_bools (is_spent o (attempts (Begun answer.Fault ∷ []))) (
 same_wants : {out : Origin} {o : FifoOptions} {v : JobView} → IsFresh out o v → out.shelf.wants ≤ v.shelf.wants
 same_wants k = rw (← k.shelf) (omega arith)
 
+-- memory was wanted for the first session
+first_want : {out : Origin} {o : FifoOptions} (v w : JobView) → IsFresh out o v → Opens out v answer.NoMemory w
+    → ShelfWants out.seg (begin_calls out (number_of v) (session_in v.fifo)) v w ⊎ ListWants out.seg v w
+    → Table out o [] (Begun answer.NoMemory ∷ []) [] w.shelf w.kit.writer w.runs w.sessions w.faults
+first_want {out = out} {o = o} v w k c (inl m) =
+    let q : Row = record { note = record { number = session_in v.fifo; begun = false; closed = false }; outcome = NotBegun; fault = None; written = []; before = v.shelf; after = w.shelf; first = number_of v; next = number_of w } in
+    record {
+      rows = q ∷ [];
+      last = record { front = []; last = q; split = refl; number = k.shows.session; is_open = λ u. absurd (cc u) };
+      numbered = (k.shows.session, tt);
+      are_sessions = c.sessions ∙ rw k.sessions refl;
+      are_faults = m.2 ∙ k.faults;
+      chain = (k.shelf, refl);
+      segments = (k.number, refl);
+      each = (((refl, refl, refl, m.0, m.5), λ e. m.4, c.counts, c.want_counts), tt);
+      packets = refl;
+      fates = rw (c.runs, k.runs) refl;
+      notes = m.2 ∙ k.faults;
+      writing = λ u. absurd (cc u);
+      sound = rw k.shelf at c.sound;
+      safe = λ e. m.2 ∙ k.faults;
+      wants = omega (arith, same_wants k, c.want_counts);
+      excuse = λ n q x e. rose_later out.shelf.wants v.shelf.wants w.shelf.wants (same_wants k) m.4;
+    }
+first_want {out = out} {o = o} v w k c (inr m) =
+    let q : Row = record { note = record { number = session_in v.fifo; begun = false; closed = false }; outcome = NotCalled; fault = None; written = []; before = v.shelf; after = w.shelf; first = number_of v; next = number_of w } in
+    record {
+      rows = q ∷ [];
+      last = record { front = []; last = q; split = refl; number = k.shows.session; is_open = λ u. absurd (cc u) };
+      numbered = (k.shows.session, tt);
+      are_sessions = c.sessions ∙ rw k.sessions refl;
+      are_faults = m.2 ∙ k.faults;
+      chain = (k.shelf, refl);
+      segments = (k.number, refl);
+      each = (((refl, refl, refl, m.0, m.1, m.4), λ e. absurd (cc e), c.counts, c.want_counts), tt);
+      packets = refl;
+      fates = rw (c.runs, k.runs) refl;
+      notes = m.2 ∙ k.faults;
+      writing = λ u. absurd (cc u);
+      sound = rw k.shelf at c.sound;
+      safe = λ e. m.2 ∙ k.faults;
+      wants = omega (arith, same_wants k, c.want_counts);
+      excuse = λ n q x e. both_lists (asks_list out.seg) m.0 n;
+    }
+
 first_table : {out : Origin} {o : FifoOptions} (a : Answer) (v w : JobView) → IsFresh out o v → Opens out v a w
     → Table out o [] (Begun a ∷ []) [] w.shelf w.kit.writer w.runs w.sessions w.faults
 first_table {out = out} {o = o} answer.Done v w k c =
     let s = session_in v.fifo in
-    let q : Row = record { note = record { number = s; begun = true; closed = false }; outcome = Open; fault = None; written = []; before = v.shelf; after = w.shelf } in
+    let q : Row = record { note = record { number = s; begun = true; closed = false }; outcome = Open; fault = None; written = []; before = v.shelf; after = w.shelf; first = number_of v; next = number_of w } in
     record {
       rows = q ∷ [];
       last = record { front = []; last = q; split = refl; number = k.shows.session; is_open = λ _ _. (refl, c.writer refl) };
@@ -44,7 +91,8 @@ first_table {out = out} {o = o} answer.Done v w k c =
       are_sessions = c.sessions ∙ rw k.sessions refl;
       are_faults = c.made.2 ∙ k.faults;
       chain = (k.shelf, refl);
-      each = (((refl, refl, rw (no_puts out s) c.made.0), λ e. absurd (cc e), c.counts, c.want_counts), tt);
+      segments = (k.number, refl);
+      each = (((refl, refl, rw (no_puts out (number_of v) s) c.made.0, rw (no_puts out (number_of v) s) c.made.4), λ e. absurd (cc e), c.counts, c.want_counts), tt);
       packets = refl;
       fates = rw (c.runs, k.runs) refl;
       notes = c.made.2 ∙ k.faults;
@@ -52,11 +100,11 @@ first_table {out = out} {o = o} answer.Done v w k c =
       sound = rw k.shelf at c.sound;
       safe = λ e. c.made.2 ∙ k.faults;
       wants = omega (arith, same_wants k, c.want_counts);
-      excuse = λ q x. absurd (cc x);
+      excuse = λ n q x. absurd (cc x);
     }
 first_table {out = out} {o = o} answer.Fault v w k c =
     let n = note_at v Begin w in
-    let q : Row = record { note = record { number = session_in v.fifo; begun = false; closed = false }; outcome = NotBegun; fault = Some n; written = []; before = v.shelf; after = w.shelf } in
+    let q : Row = record { note = record { number = session_in v.fifo; begun = false; closed = false }; outcome = NotBegun; fault = Some n; written = []; before = v.shelf; after = w.shelf; first = number_of v; next = number_of w } in
     record {
       rows = q ∷ [];
       last = record { front = []; last = q; split = refl; number = k.shows.session; is_open = λ _ l. absurd (not_live o (Begun answer.Fault ∷ []) (begun_shut o) l) };
@@ -64,7 +112,8 @@ first_table {out = out} {o = o} answer.Fault v w k c =
       are_sessions = c.sessions ∙ rw k.sessions refl;
       are_faults = c.made.2 ∙ rw k.faults refl;
       chain = (k.shelf, refl);
-      each = (((refl, refl, refl, c.made.0), (refl, refl, c.counts, c.made.4, omega arith, refl), c.counts, c.want_counts), tt);
+      segments = (k.number, refl);
+      each = (((refl, refl, refl, c.made.0, c.made.5), (refl, refl, c.counts, c.made.4, omega arith, refl), c.counts, c.want_counts), tt);
       packets = refl;
       fates = rw (c.runs, k.runs) refl;
       notes = (v.faults, n, c.made.2, k.shows.session, refl, k.faults);
@@ -72,27 +121,9 @@ first_table {out = out} {o = o} answer.Fault v w k c =
       sound = rw k.shelf at c.sound;
       safe = λ e. absurd (c.safe (rw k.shelf e) refl);
       wants = omega (arith, same_wants k, c.want_counts);
-      excuse = λ q x. absurd (cc x);
+      excuse = λ n q x. absurd (cc x);
     }
-first_table {out = out} {o = o} answer.NoMemory v w k c =
-    let q : Row = record { note = record { number = session_in v.fifo; begun = false; closed = false }; outcome = NotBegun; fault = None; written = []; before = v.shelf; after = w.shelf } in
-    record {
-      rows = q ∷ [];
-      last = record { front = []; last = q; split = refl; number = k.shows.session; is_open = λ u. absurd (cc u) };
-      numbered = (k.shows.session, tt);
-      are_sessions = c.sessions ∙ rw k.sessions refl;
-      are_faults = c.made.2 ∙ k.faults;
-      chain = (k.shelf, refl);
-      each = (((refl, refl, refl, c.made.0), λ e. c.made.4, c.counts, c.want_counts), tt);
-      packets = refl;
-      fates = rw (c.runs, k.runs) refl;
-      notes = c.made.2 ∙ k.faults;
-      writing = λ u. absurd (cc u);
-      sound = rw k.shelf at c.sound;
-      safe = λ e. c.made.2 ∙ k.faults;
-      wants = omega (arith, same_wants k, c.want_counts);
-      excuse = λ q x e. rose_later out.shelf.wants v.shelf.wants w.shelf.wants (same_wants k) c.made.4;
-    }
+first_table answer.NoMemory v w k c = first_want v w k c c.made
 
 no_runs : (rs : List Run) → rs ≡ [] → AreInOrder 0 rs
 no_runs rs e = rw e (omega arith, tt)
@@ -163,7 +194,7 @@ started_refused {out = out} {o = o} v w y x z b k c shows next m wants wants_nex
     count = refl;
     indexed = refl;
     order = no_runs y.runs (m.runs ∙ c.runs ∙ k.runs);
-    table = want_now (rw (m.shelf, m.kit, m.runs, m.sessions, m.faults) (first_table answer.Fault v w k c)) (λ q e. absurd (not_empty v.faults (note_at v Begin w) (sym e ∙ m.faults ∙ c.made.2)));
+    table = want_now (rw (m.shelf, m.kit, m.runs, m.sessions, m.faults) (first_table answer.Fault v w k c)) (λ n q e. absurd (not_empty v.faults (note_at v Begin w) (sym e ∙ m.faults ∙ c.made.2)));
     places = record { runs = inl (omega (arith, k.run_places, c.run_places, m.run_places)); sessions = λ u. absurd (cc u); faults = λ u. absurd (cc u); first = λ _. omega (arith, k.run_places, c.run_places, m.run_places) };
   };
 }

@@ -1,0 +1,10 @@
+use Rattle.std.proofs.Common.{◌≡◌, ◌+◌, ◌≤◌, ◌++◌, map, drop}
+use Rattle.slave.specs.Entered.{refusal}
+use Rattle.slave.proofs.refusals.enter_rest.Given as goal
+
+abbrev pub invariant-loop-k : goal.invariant-loop-k
+invariant-loop-k l = record {
+  low : l.next ≤ l.k;
+  items : l.all.items ++ map refusal (drop l.k l.receipts) ≡ l.initial.all.items ++ map refusal (drop l.next l.receipts);
+  spare : l.all.spare + l.k ≡ l.initial.all.spare + l.next;
+}
