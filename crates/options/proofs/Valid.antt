@@ -43,7 +43,7 @@ use Rattle.options.specs.Words.{with_value as with_value_at}
 use Rattle.options.specs.Filters.{chain, are_native, are_short}
 use Rattle.options.specs.declared.select.Spec.{Spec}
 use Rattle.options.specs.declared.select.Spec.TheVariants.{All as AllStreams, Video, Audio, Index}
-use Rattle.options.specs.Valid.{IsNameIfAny, StartFits, writes, IsValid, IsValidPlan}
+use Rattle.options.specs.Valid.{IsNameIfAny, StartFits, AreFiles, writes, IsValid, IsValidPlan}
 
 -- what holds of an answer, where there is one
 abbrev pub On : {A : Type 0} → (A → Type 0) → Result A WordKind → Type 0
@@ -150,7 +150,15 @@ abbrev StartIfAny : Option ℕ → Type 0
 StartIfAny None = Unit {0}
 StartIfAny (Some start) = start ≤ 4294967295
 
+abbrev IsOneFile : Format → Type 0
+IsOneFile format = is_segment format ≡ false
+
+abbrev InnerIfAny : Option Format → Type 0
+InnerIfAny None = Unit {0}
+InnerIfAny (Some format) = IsOneFile format
+
 record SegFits (d : SegDraft) : Type 0 where
+  inner : InnerIfAny d.inner
   list : IsNameIfAny d.list
   start : StartIfAny d.start
 
@@ -172,14 +180,23 @@ unless_on (Some f) name e = tt
 name_on : (name : List ℕ) → On IsName (checked_name name)
 name_on name = unless_on (name_fault name) name refl
 
+inner_by : (flv adts mpegts : Bool) → On IsOneFile (ok_or (if flv then Some Flv else if adts then Some Adts else if mpegts then Some Mpegts else None) fault.UnknownFormat)
+inner_by true adts mpegts = refl
+inner_by false true mpegts = refl
+inner_by false false true = refl
+inner_by false false false = tt
+
+inner_on : (value : List ℕ) → On IsOneFile (ok_or (inner_named value) fault.UnknownFormat)
+inner_on value = inner_by (bytes_eq value (codes "flv")) (bytes_eq value (codes "adts")) (bytes_eq value (codes "mpegts"))
+
 segment_keeps : (k : Key) (value : List ℕ) (d : SegDraft) → SegFits d → On SegFits (segment_with k value d)
-segment_keeps key.SegmentFormat value d h = on_bind Anything SegFits (ok_or (inner_named value) fault.UnknownFormat) _ (on_any _) (λ v w. record { list = h.list; start = h.start })
-segment_keeps key.SegmentTime value d h = on_bind Anything SegFits (or_bad (time value)) _ (on_any _) (λ v w. record { list = h.list; start = h.start })
-segment_keeps key.SegmentList value d h = on_bind IsName SegFits (checked_name value) _ (name_on value) (λ v w. record { list = w; start = h.start })
-segment_keeps key.SegmentListType value d h = on_bind Anything SegFits (or_bad (list_kind_named value)) _ (on_any _) (λ v w. record { list = h.list; start = h.start })
-segment_keeps key.SegmentStart value d h = on_bind (Within 0 4294967295) SegFits (or_bad (number 0 4294967295 value)) _ (number_on 0 4294967295 value) (λ v w. record { list = h.list; start = w.1 })
-segment_keeps key.ResetTimestamps value d h = on_bind Anything SegFits (or_bad (flag value)) _ (on_any _) (λ v w. record { list = h.list; start = h.start })
-segment_keeps key.BreakNonKeyframes value d h = on_bind Anything SegFits (or_bad (flag value)) _ (on_any _) (λ v w. record { list = h.list; start = h.start })
+segment_keeps key.SegmentFormat value d h = on_bind IsOneFile SegFits (ok_or (inner_named value) fault.UnknownFormat) _ (inner_on value) (λ v w. record { inner = w; list = h.list; start = h.start })
+segment_keeps key.SegmentTime value d h = on_bind Anything SegFits (or_bad (time value)) _ (on_any _) (λ v w. record { inner = h.inner; list = h.list; start = h.start })
+segment_keeps key.SegmentList value d h = on_bind IsName SegFits (checked_name value) _ (name_on value) (λ v w. record { inner = h.inner; list = w; start = h.start })
+segment_keeps key.SegmentListType value d h = on_bind Anything SegFits (or_bad (list_kind_named value)) _ (on_any _) (λ v w. record { inner = h.inner; list = h.list; start = h.start })
+segment_keeps key.SegmentStart value d h = on_bind (Within 0 4294967295) SegFits (or_bad (number 0 4294967295 value)) _ (number_on 0 4294967295 value) (λ v w. record { inner = h.inner; list = h.list; start = w.1 })
+segment_keeps key.ResetTimestamps value d h = on_bind Anything SegFits (or_bad (flag value)) _ (on_any _) (λ v w. record { inner = h.inner; list = h.list; start = h.start })
+segment_keeps key.BreakNonKeyframes value d h = on_bind Anything SegFits (or_bad (flag value)) _ (on_any _) (λ v w. record { inner = h.inner; list = h.list; start = h.start })
 segment_keeps key.Format value d h = h
 segment_keeps key.Select value d h = h
 segment_keeps key.OnFail value d h = h
@@ -202,7 +219,7 @@ unfolding with_value
 value_keeps key.Format value d h = on_bind Anything Fits (ok_or (format_named value) fault.UnknownFormat) _ (on_any _) (λ v w. record { segment = h.segment; fifo = h.fifo })
 value_keeps key.Select value d h = on_bind Anything Fits (specs value) _ (on_any _) (λ v w. record { segment = h.segment; fifo = h.fifo })
 value_keeps key.OnFail value d h = on_bind Anything Fits (or_bad (on_fail_named value)) _ (on_any _) (λ v w. record { segment = h.segment; fifo = h.fifo })
-value_keeps key.UseFifo value d h = on_bind Anything Fits (or_bad (flag value)) _ (on_any _) (λ v w. on_cond Fits v (Err fault.NotBuilt) _ tt (record { segment = h.segment; fifo = h.fifo }))
+value_keeps key.UseFifo value d h = on_bind Anything Fits (or_bad (flag value)) _ (on_any _) (λ v w. record { segment = h.segment; fifo = h.fifo })
 value_keeps key.FifoOptions value d h = on_bind FifoFits Fits (fifo_options value) _ (fifo_options_keep value) (λ v w. record { segment = h.segment; fifo = w })
 value_keeps key.Filters value d h = in_chains AllStreams value d h
 value_keeps key.VideoFilters value d h = in_chains Video value d h
@@ -234,7 +251,7 @@ option_part_keeps d text h =
     turn_on Fits v.1 more v.2 keeps)))
 
 none_fits : Fits no_options
-none_fits = record { segment = record { list = tt; start = tt }; fifo = tt }
+none_fits = record { segment = record { inner = tt; list = tt; start = tt }; fifo = tt }
 
 bracket_keeps : (text : List ℕ) → On (First Fits) (behind_bracket text)
 bracket_keeps [] = tt
@@ -260,6 +277,10 @@ start_within : (start : Option ℕ) → StartIfAny start → unwrap_or start 0 �
 start_within None h = lit≤ tt
 start_within (Some start) h = h
 
+inner_within : (inner : Option Format) → InnerIfAny inner → IsOneFile (unwrap_or inner Mpegts)
+inner_within None h = refl
+inner_within (Some format) h = h
+
 -- what is known of chains that no check refused
 chains_on : (flv native short : Bool) (s : Slave) → ((flv ≡ true → native ≡ true) → short ≡ true → IsValid s) → On IsValid (cond ((flv && not native) || not short) (Err fault.BadFilter) (Ok s))
 chains_on true true true s h = h (λ e. refl) refl
@@ -274,6 +295,7 @@ segment_valid d name h n (Some t) e = chains_on (writes_flv Segment d.segment) (
   name = n;
   list = h.segment.list;
   start = start_within d.segment.start h.segment.start;
+  files = inner_within d.segment.inner h.segment.inner;
   queue_some = (queue_within d.fifo h.fifo).0;
   queue_few = (queue_within d.fifo h.fifo).1;
   segments = refl;
@@ -287,6 +309,7 @@ whole_valid format d name h n whole none flv = chains_on (writes_flv format d.se
   name = n;
   list = subst (λ (o : Option SegOptions). IsNameIfAny (list_of o)) (sym none) tt;
   start = subst StartFits (sym none) tt;
+  files = subst AreFiles (sym none) tt;
   queue_some = (queue_within d.fifo h.fifo).0;
   queue_few = (queue_within d.fifo h.fifo).1;
   segments = ap is_some none ∙ sym whole;

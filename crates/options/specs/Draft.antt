@@ -3,7 +3,7 @@ use Rattle.std.specs.Prelude.{ℕ, List, [], ◌∷◌, ◌++◌, Bool, Option, 
 use Rattle.std.specs.Option.{ok_or, option_map}
 use Rattle.rmx_media.specs.declared.packet.Format.{Format}
 use Rattle.options.specs.declared.fault.WordKind.{WordKind}
-use Rattle.options.specs.declared.fault.WordKind.TheVariants.{UnknownFormat, UnknownOption, BadValue, NotBuilt}
+use Rattle.options.specs.declared.fault.WordKind.TheVariants.{UnknownFormat, UnknownOption, BadValue}
 use Rattle.options.specs.declared.key.Key.{Key}
 use Rattle.options.specs.declared.key.Key.TheVariants as key
 use Rattle.bsf_chain.specs.declared.filter.Filter.{Filter}
@@ -72,9 +72,8 @@ with_select value d = specs value >>= λ v. Ok (record d { select = Some v })
 abbrev pub with_on_fail : List ℕ → Kept → Result Kept WordKind
 with_on_fail value d = or_bad (on_fail_named value) >>= λ v. Ok (record d { abort = Some v })
 
--- outputs with threads of their own aren't built yet
 abbrev pub with_use_fifo : List ℕ → Kept → Result Kept WordKind
-with_use_fifo value d = or_bad (flag value) >>= λ v. if v then Err NotBuilt else Ok (record d { use_fifo = Some v })
+with_use_fifo value d = or_bad (flag value) >>= λ v. Ok (record d { use_fifo = Some v })
 
 abbrev pub with_fifo_options : List ℕ → Kept → Result Kept WordKind
 with_fifo_options value d = fifo_options value >>= λ v. Ok (record d { fifo = Some v })

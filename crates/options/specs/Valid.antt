@@ -20,6 +20,11 @@ abbrev pub StartFits : Option SegOptions → Type 0
 StartFits None = Unit {0}
 StartFits (Some options) = options.start ≤ 4294967295
 
+-- segments are of a format that is one file
+abbrev pub AreFiles : Option SegOptions → Type 0
+AreFiles None = Unit {0}
+AreFiles (Some options) = is_segment options.inner ≡ false
+
 -- whether FLV is written
 abbrev pub writes : Format → Option SegOptions → Bool
 writes Segment None = false
@@ -32,6 +37,7 @@ pub record IsValid (s : Slave) : Type 0 where
   pub name : name_fault s.name ≡ None
   pub list : IsNameIfAny (list_of s.seg)
   pub start : StartFits s.seg
+  pub files : AreFiles s.seg
   pub queue_some : 1 ≤ s.fifo.queue_size
   pub queue_few : s.fifo.queue_size ≤ 256
   -- it has options of segments exactly where it is cut into segments, and its name is a template then

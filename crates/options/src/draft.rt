@@ -101,16 +101,12 @@ impl Draft {
         Ok(draft)
     }
 
-    // Outputs with threads of their own aren't built yet.
     fn with_use_fifo(self, value: &str) -> Result<Draft, ReadError>
         ensures { Gives view result (with_use_fifo value.now (view self)) }
     {
         let Some(use_fifo) = flag_of(value) else {
             return Err(ReadError::Fault(WordKind::BadValue));
         };
-        if use_fifo {
-            return Err(ReadError::Fault(WordKind::NotBuilt));
-        }
         let mut draft = self;
         draft.use_fifo = Some(use_fifo);
         Ok(draft)

@@ -24,8 +24,6 @@ pub enum WordKind {
     BadFilter = 13,
     NameTooLong = 14,
     NoMemory = 15,
-    /// A word that is right, for a part that doesn't stand yet.
-    NotBuilt = 16,
 }
 
 /// The first fault of the words from the left.

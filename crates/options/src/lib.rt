@@ -30,4 +30,6 @@ pub use slave::SlavePlan;
 pub use words::{Plan, Source, WordOption, read_words};
 
 #[cfg(test)]
+mod grammar;
+#[cfg(test)]
 mod tests;

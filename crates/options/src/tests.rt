@@ -1,9 +1,10 @@
 use super::*;
 use WordKind::*;
+use playlist::ListKind;
 use rmx_media::Format;
 use std::test::Fail;
 
-fn read(rt: &impl AllocGlobal, words: &[&str]) -> Option<Result<Plan, WordFault>> {
+pub(super) fn read(rt: &impl AllocGlobal, words: &[&str]) -> Option<Result<Plan, WordFault>> {
     let mut list = Vec::new(rt.alloc());
     for word in words {
         list.push(String::from_str(rt.alloc(), word).ok()?).ok()?;
@@ -12,14 +13,14 @@ fn read(rt: &impl AllocGlobal, words: &[&str]) -> Option<Result<Plan, WordFault>
 }
 
 // The fault of words and its place, or UnknownWord at 99 for words without a fault.
-fn fault(rt: &impl AllocGlobal, words: &[&str]) -> Option<(WordKind, u32)> {
+pub(super) fn fault(rt: &impl AllocGlobal, words: &[&str]) -> Option<(WordKind, u32)> {
     match read(rt, words)? {
         Ok(_) => Some((UnknownWord, 99)),
         Err(fault) => Some((fault.kind, fault.word)),
     }
 }
 
-const FINE: (WordKind, u32) = (UnknownWord, 99);
+pub(super) const FINE: (WordKind, u32) = (UnknownWord, 99);
 
 #[test]
 fn words(rt: HostRuntime) -> Result<(), Fail> {
@@ -121,7 +122,7 @@ fn numbers(rt: HostRuntime) -> Result<(), Fail> {
     Ok(())
 }
 
-fn tee(rt: &impl AllocGlobal, text: &str) -> Option<(WordKind, u32)> {
+pub(super) fn tee(rt: &impl AllocGlobal, text: &str) -> Option<(WordKind, u32)> {
     fault(rt, &["-i", "a", "-f", "tee", text])
 }
 
@@ -152,6 +153,8 @@ fn right_tees(rt: HostRuntime) -> Result<(), Fail> {
         "[f=segment:bsfs=h264_mp4toannexb]s%d",
         "[f=mpegts:bsfs=null,null,null,null,null,null,null,null,null,null,null,null,null,null,null,null]o",
         "[f=mpegts:bsfs=null,null,null,null,null,null,null,null,null,null,null,null,null,null:bsfs/v=null:bsfs/a=null:bsfs/0=null:bsfs/1=null]o",
+        "[f=flv:use_fifo=1]o",
+        "[f=flv:use_fifo=true]o",
         "[f=flv]a[b]:c",
         "[f=flv]~",
         "[f=flv]é",
@@ -166,8 +169,6 @@ fn wrong_tees(rt: HostRuntime) -> Result<(), Fail> {
     for (text, kind) in [
         ("[f=flv:zz=1]o", UnknownOption),
         ("[f=flv:use_fifo=2]o", BadValue),
-        ("[f=flv:use_fifo=1]o", NotBuilt),
-        ("[f=flv:use_fifo=true]o", NotBuilt),
         ("[f=flv]o\\", DanglingEscape),
         ("[f=flv]o'", DanglingEscape),
         ("[f=flv", UnclosedBlock),
@@ -299,6 +300,55 @@ fn many_outputs(rt: HostRuntime) -> Result<(), Fail> {
     assert_eq!(rt; tee(&rt, &longest), Some(FINE));
     let longer = format!(in rt.alloc(); "[f=flv]{name}{name}n")?;
     assert_eq!(rt; tee(&rt, &longer), Some((NameTooLong, 4)));
+    let wrong = format!(in rt.alloc(); "[f=zz]z|{sixteen}")?;
+    assert_eq!(rt; tee(&rt, &wrong), Some((UnknownFormat, 4)));
+    let wrong = format!(in rt.alloc(); "{sixteen}|[f=flv]a")?;
+    assert_eq!(rt; tee(&rt, &wrong), Some((TooManySlaves, 4)));
+    let two = format!(in rt.alloc(); "{name}{name}")?;
+    let three = format!(in rt.alloc(); "{name}{name}n")?;
+    let wide = format!(in rt.alloc(); "{name}éééééééééééééééééééééééééééééééééééééééééééééééééé")?;
+    assert_eq!(rt; fault(&rt, &["-i", &two, "-f", "adts", "o"]), Some(FINE));
+    assert_eq!(rt;
+        fault(&rt, &["-i", &three, "-f", "adts", "o"]),
+        Some((NameTooLong, 1))
+    );
+    assert_eq!(rt; fault(&rt, &["-i", "a", "-f", "adts", &two]), Some(FINE));
+    assert_eq!(rt;
+        fault(&rt, &["-i", "a", "-f", "adts", &three]),
+        Some((NameTooLong, 4))
+    );
+    assert_eq!(rt;
+        fault(&rt, &["-i", &three, "-f", "ogg", "o"]),
+        Some((NameTooLong, 1))
+    );
+    assert_eq!(rt;
+        fault(&rt, &["-i", "a", "-f", "segment", &three]),
+        Some((NameTooLong, 4))
+    );
+    assert_eq!(rt; fault(&rt, &["-i", &wide, "-f", "adts", "o"]), Some(FINE));
+    let wider = format!(in rt.alloc(); "{wide}x")?;
+    assert_eq!(rt;
+        fault(&rt, &["-i", &wider, "-f", "adts", "o"]),
+        Some((NameTooLong, 1))
+    );
+    for (text, kind) in [
+        (format!(in rt.alloc(); "[f=flv]{three}\t")?, BadValue),
+        (
+            format!(in rt.alloc(); "[f=segment:segment_list={three}]s%d")?,
+            NameTooLong,
+        ),
+        (format!(in rt.alloc(); "[f=segment]{three}")?, NameTooLong),
+        (
+            format!(in rt.alloc(); "[f=flv:bsfs=dump_extra]{three}")?,
+            NameTooLong,
+        ),
+        (
+            format!(in rt.alloc(); "[f=flv:segment_time=1]{three}")?,
+            UnknownOption,
+        ),
+    ] {
+        assert_eq!(rt; tee(&rt, &text), Some((kind, 4)), "{text}");
+    }
     Ok(())
 }
 
@@ -329,6 +379,6 @@ fn plans(rt: HostRuntime) -> Result<(), Fail> {
     let seg = second.seg.as_ref().ok_or("it has segments")?;
     assert_eq!(rt; seg.inner, Format::Mpegts);
     assert_eq!(rt; seg.time_us, 2_000_000);
-    assert_eq!(rt; seg.list_kind, playlist::ListKind::Csv);
+    assert_eq!(rt; seg.list_kind, ListKind::Csv);
     Ok(())
 }
