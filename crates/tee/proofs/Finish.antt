@@ -72,16 +72,16 @@ ends_all state tee seats given es k a = record {
 abbrev states_of : {S : Type 0} → List (SlaveEnd S) → List EndState
 states_of es = map (λ e. e.state) es
 
-failed_by : (d : Bool) (st : EndState) → (d ≡ true → IsUnclosed st) → is_want st ≡ false → d ≡ true → is_failed st ≡ true
+pub failed_by : (d : Bool) (st : EndState) → (d ≡ true → IsUnclosed st) → is_want st ≡ false → d ≡ true → is_failed st ≡ true
 failed_by d ends.Closed f w e = elim (f e) [ inl h ↦ absurd cc | inr h ↦ absurd cc ]
 failed_by d ends.Failed f w e = refl
 failed_by d ends.NoMemory f w e = absurd cc
 
-neither : (a b : Bool) → (a || b) ≡ false → (a ≡ false) × (b ≡ false)
+pub neither : (a b : Bool) → (a || b) ≡ false → (a ≡ false) × (b ≡ false)
 neither false b e = (refl, e)
 neither true b e = absurd cc
 
-found_by : (a f d x : Bool) (n : ℕ) (rest : Option ℕ) → (d ≡ true → f ≡ true) → (x ≡ true → is_some rest ≡ true) → ((a && d) || x) ≡ true → is_some (cond (a && f) (Some n) rest) ≡ true
+pub found_by : (a f d x : Bool) (n : ℕ) (rest : Option ℕ) → (d ≡ true → f ≡ true) → (x ≡ true → is_some rest ≡ true) → ((a && d) || x) ≡ true → is_some (cond (a && f) (Some n) rest) ≡ true
 found_by true true d x n rest g h e = refl
 found_by true false true x n rest g h e = absurd (let is = g refl in cc)
 found_by true false false x n rest g h e = h e
@@ -99,7 +99,7 @@ first_found state given n (s ∷ ss) (h ∷ hs) (x ∷ es) a w e =
     found_by s.slave.abort (is_failed x.state) (is_dead s h) (any_both (aborts ss) (deads ss hs)) n (first_failed_from (n + 1) (aborts ss) (states_of es))
     (failed_by (is_dead s h) x.state a.0.given_up none.0) (first_found state given (n + 1) ss hs es a.1 none.1) e
 
-both_by : (d x f y : Bool) → (d ≡ true → f ≡ true) → (x ≡ true → y ≡ true) → (d && x) ≡ true → (f && y) ≡ true
+pub both_by : (d x f y : Bool) → (d ≡ true → f ≡ true) → (x ≡ true → y ≡ true) → (d && x) ≡ true → (f && y) ≡ true
 both_by true x true y g h e = h e
 both_by true x false y g h e = absurd (let is = g refl in cc)
 both_by false x f y g h e = absurd cc
@@ -115,13 +115,13 @@ all_failed state given (s ∷ ss) (h ∷ hs) (x ∷ es) a w e =
     let none = neither (is_want x.state) (any_want (states_of es)) w in
     both_by (is_dead s h) (all_of (deads ss hs)) (is_failed x.state) (list_all is_failed (states_of es)) (failed_by (is_dead s h) x.state a.0.given_up none.0) (all_failed state given ss hs es a.1 none.1) e
 
-either_found : (x y : Bool) (found : Option ℕ) (all : Bool) → (x ≡ true → is_some found ≡ true) → (y ≡ true → all ≡ true) → (x || y) ≡ true → is_some (failed_in found all) ≡ true
+pub either_found : (x y : Bool) (found : Option ℕ) (all : Bool) → (x ≡ true → is_some found ≡ true) → (y ≡ true → all ≡ true) → (x || y) ≡ true → is_some (failed_in found all) ≡ true
 either_found x y (Some k) all g h e = refl
 either_found true y None all g h e = absurd (let is = g refl in cc)
 either_found false y None true g h e = refl
 either_found false y None false g h e = absurd (let is = h e in cc)
 
-over_when : (stopped : Option ℕ) (u : ℕ) → stopped_by stopped u ≡ true → is_some stopped ≡ true
+pub over_when : (stopped : Option ℕ) (u : ℕ) → stopped_by stopped u ≡ true → is_some stopped ≡ true
 over_when None u e = absurd cc
 over_when (Some k) u e = refl
 

@@ -1,3 +1,4 @@
+pub mod Built
 pub mod Choices
 pub mod Routes
 pub mod Outputs
@@ -6,3 +7,14 @@ pub mod Over
 pub mod Watching
 pub mod Finish
 pub mod Opening
+pub mod Attending
+pub mod Closing
+pub mod Joined
+pub mod Knowing
+pub mod Offering
+pub mod Places
+pub mod Riding
+pub mod RunFed
+pub mod Swept
+pub mod RunOpening
+pub mod LaneMaking

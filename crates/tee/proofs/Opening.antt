@@ -81,7 +81,7 @@ zip_among R (x ∷ xs) [] y back h = (x, h.0)
 zip_among R (x ∷ xs) (b ∷ bs) y back h = zip_among R xs bs y back h.1
 
 module _ {S : Type 0} (state : S → ShelfState) (infos : List StreamInfo) (script : Option (List ℕ)) where
-  seats_more : (ps : List Slave) (xs : List S) (ss : List Seat) (x : S) (rest : List S) (p : Slave) (s : Seat) → AreSeats state infos script ps xs ss (x ∷ rest) → IsSeat p infos script (state x) s
+  pub seats_more : (ps : List Slave) (xs : List S) (ss : List Seat) (x : S) (rest : List S) (p : Slave) (s : Seat) → AreSeats state infos script ps xs ss (x ∷ rest) → IsSeat p infos script (state x) s
       → AreSeats state infos script (ps ++ p ∷ []) xs (ss ++ s ∷ []) rest
   seats_more [] [] [] x rest p s a is = absurd cc
   seats_more [] (y ∷ ys) [] x rest p s a is =

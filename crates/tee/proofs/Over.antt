@@ -16,7 +16,7 @@ use Rattle.tee.specs.Sits.{Sits, AllSit, deads, is_dead}
 use Rattle.tee.specs.declared.output.TeeSlave.{TeeSlave}
 
 -- one that lives
-alive_by : (a any all more dead : Bool) → dead ≡ false → ((a && dead) || any || (all && (dead && more))) ≡ (any || (false && more))
+pub alive_by : (a any all more dead : Bool) → dead ≡ false → ((a && dead) || any || (all && (dead && more))) ≡ (any || (false && more))
 alive_by a any all more true e = absurd cc
 alive_by true true all more false e = refl
 alive_by true false true more false e = refl
@@ -26,14 +26,14 @@ alive_by false false true more false e = refl
 alive_by false false false more false e = refl
 
 -- one that is given up and doesn't abort
-dead_by : (a any all more dead : Bool) → dead ≡ true → a ≡ false → ((a && dead) || any || (all && (dead && more))) ≡ (any || (all && more))
+pub dead_by : (a any all more dead : Bool) → dead ≡ true → a ≡ false → ((a && dead) || any || (all && (dead && more))) ≡ (any || (all && more))
 dead_by true any all more dead d e = absurd cc
 dead_by false any all more false d e = absurd cc
 dead_by false true all more true d e = refl
 dead_by false false true more true d e = refl
 dead_by false false false more true d e = refl
 
-over_by : (a any all more dead : Bool) → dead ≡ true → a ≡ true → ((a && dead) || any || (all && (dead && more))) ≡ true
+pub over_by : (a any all more dead : Bool) → dead ≡ true → a ≡ true → ((a && dead) || any || (all && (dead && more))) ≡ true
 over_by false any all more dead d e = absurd cc
 over_by true any all more false d e = absurd cc
 over_by true any all more true d e = refl

@@ -1,11 +1,12 @@
 -- What an output leaves of a packet fits its files.
-use Rattle.std.proofs.Common.{◌≡◌, ◌<◌, ◌≤◌, List, [], length, get_or, Bool, true, false, cond, Option, Some, None, Result, Ok, Err, refl, sym, ◌∙◌, ap, subst, arith, inl, inr}
+use Rattle.std.proofs.Common.{◌≡◌, ◌<◌, ◌≤◌, List, [], length, get_or, Bool, true, false, cond, Option, Some, None, Result, Ok, Err, refl, sym, ◌∙◌, ap, subst, arith}
 use Rattle.std.specs.Prelude.{IfOk}
 use Rattle.std.specs.List.{list_any}
 use Rattle.std.specs.Option.{option_map, option_and_then}
 use Rattle.bsf_chain.specs.Apply.{result_of, result_by, video_result, packet_of, passed, laid_of, Laid, IsKept, acts_on_video, acts_on_audio}
 use Rattle.bsf_chain.specs.declared.filter.Filter.{Filter}
 use Rattle.options.specs.Filters.{filters_for, is_audio}
+use Rattle.options.specs.Slave.{is_flv}
 use Rattle.options.specs.Valid.{writes}
 use Rattle.options.specs.declared.select.Spec.{Spec}
 use Rattle.playlist.specs.declared.seg_options.SegOptions.{SegOptions}
@@ -23,7 +24,7 @@ use Rattle.rmx_media.specs.declared.streams.StreamInfo.{StreamInfo}
 use Rattle.rmx_media.specs.Config.{kind_of}
 use Rattle.rmx_media.specs.Fits.{Fits, Suits}
 use Rattle.rmx_media.specs.Streams.{AreInfos, IsSound, kind_in}
-use Rattle.slave.specs.Calls.{IsBuilt}
+use Rattle.slave.specs.Table.{Takes}
 use Rattle.tee.specs.Choice.{all_streams, takes_kind, file_format}
 use Rattle.tee.specs.Route.{IsRoute, IsLeft, IsPlaced, IsFiltered}
 use Rattle.tee.specs.Seat.{Seat, IsInput}
@@ -109,20 +110,26 @@ audio_of : (k : Kind) → is_audio k ≡ true → k ≡ Audio
 audio_of Audio e = refl
 audio_of Video e = absurd cc
 
-suits_as : (format : Format) (seg : Option SegOptions) (p q : Packet) (k : Kind) → IsBuilt format → takes_kind (file_format format seg) k ≡ true → kind_of q.config ≡ k
-    → (writes format seg ≡ true → IsKept p (Some q)) → length p.payload ≤ 16777210 → Suits format q
-suits_as Adts seg p q k b takes is kept short = is ∙ audio_of k takes
-suits_as Flv seg p q k b takes is kept short = let fewer = (kept refl).1 in ((kept refl).0, omega arith)
-suits_as Mpegts seg p q k b takes is kept short = tt
-suits_as Segment seg p q k (inl e) takes is kept short = absurd cc
-suits_as Segment seg p q k (inr (inl e)) takes is kept short = absurd cc
-suits_as Segment seg p q k (inr (inr e)) takes is kept short = absurd cc
+suits_by : (format : Format) (p q : Packet) (k : Kind) → takes_kind format k ≡ true → kind_of q.config ≡ k
+    → (is_flv format ≡ true → IsKept p (Some q)) → length p.payload ≤ 16777210 → Suits format q
+suits_by Adts p q k takes is kept short = is ∙ audio_of k takes
+suits_by Flv p q k takes is kept short = let fewer = (kept refl).1 in ((kept refl).0, omega arith)
+suits_by Mpegts p q k takes is kept short = tt
+suits_by Segment p q k takes is kept short = absurd cc
+
+suits_as : (format : Format) (seg : Option SegOptions) (p q : Packet) (k : Kind) → takes_kind (file_format format seg) k ≡ true → kind_of q.config ≡ k
+    → (writes format seg ≡ true → IsKept p (Some q)) → length p.payload ≤ 16777210 → Suits (file_format format seg) q
+suits_as Adts seg p q k takes is kept short = suits_by Adts p q k takes is kept short
+suits_as Flv seg p q k takes is kept short = suits_by Flv p q k takes is kept short
+suits_as Mpegts seg p q k takes is kept short = suits_by Mpegts p q k takes is kept short
+suits_as Segment None p q k takes is kept short = absurd cc
+suits_as Segment (Some options) p q k takes is kept short = suits_by options.inner p q k takes is kept short
 
 some_of : {A : Type 0} (x y : A) → Some x ≡ Some y → x ≡ y
 some_of x y e = cc
 
 fits_at : (infos : List StreamInfo) (seat : Seat) (c : Choice) (p q : Packet) → IsPlaced infos seat c → (i : IsInput infos p)
-    → IsLeft seat.origin.streams.streams.items seat.slave.chains i.streams p (Some q) → Fits seat.origin.format seat.origin.streams q
+    → IsLeft seat.origin.streams.streams.items seat.slave.chains i.streams p (Some q) → Takes seat.origin q
 fits_at infos seat c p q at i l =
     let streams = seat.origin.streams.streams.items in
     let of = is_of seat.slave.chains p q (kind_in streams p.stream) l.is_choice in
@@ -139,8 +146,8 @@ fits_at infos seat c p q at i l =
         size = l.fits.all.size;
         early = l.fits.all.early;
         late = l.fits.all.late;
-        suits = subst (λ (f : Format). Suits f q) (sym at.format)
-            (suits_as seat.slave.format seat.slave.seg p q of.kind (subst IsBuilt at.format at.built) taken.1 same
+        suits = subst (λ (f : Format). Suits f q) (sym (ap (λ (f : Format). file_format f seat.origin.seg) at.format ∙ ap (file_format seat.slave.format) at.seg))
+            (suits_as seat.slave.format seat.slave.seg p q of.kind taken.1 same
             (λ w. l.native of.kind of.is (keepers_for seat.slave.chains p.stream of.kind (at.valid.native w))) i.fits.all.suits.1);
       };
       low = l.fits.low;

@@ -101,13 +101,13 @@ all_still given p u (s ∷ ss) (h ∷ hs) (g ∷ gs) [] le on a = absurd a
 all_still given p u (s ∷ ss) (h ∷ hs) (g ∷ gs) (d ∷ ds) le on a = (stood_still s given p h g u d le on.0 a.0, all_still given p u ss hs gs ds le on.1 a.1)
 
 -- a run that is over stays over
-any_grows : (a d e x y : Bool) → (d ≡ true → e ≡ true) → (x ≡ true → y ≡ true) → ((a && d) || x) ≡ true → ((a && e) || y) ≡ true
+pub any_grows : (a d e x y : Bool) → (d ≡ true → e ≡ true) → (x ≡ true → y ≡ true) → ((a && d) || x) ≡ true → ((a && e) || y) ≡ true
 any_grows false d e x y f g h = g h
 any_grows true true e x y f g h = let is : e ≡ true = f refl in rw is refl
 any_grows true false true x y f g h = refl
 any_grows true false false x y f g h = g h
 
-all_grows : (d e x y : Bool) → (d ≡ true → e ≡ true) → (x ≡ true → y ≡ true) → (d && x) ≡ true → (e && y) ≡ true
+pub all_grows : (d e x y : Bool) → (d ≡ true → e ≡ true) → (x ≡ true → y ≡ true) → (d && x) ≡ true → (e && y) ≡ true
 all_grows true e x y f g h = let is : e ≡ true = f refl in rw is (g h)
 all_grows false e x y f g h = absurd cc
 
@@ -128,7 +128,7 @@ all_stay (s ∷ ss) [] gs on h = absurd on
 all_stay (s ∷ ss) (x ∷ hs) [] on h = absurd on
 all_stay (s ∷ ss) (x ∷ hs) (g ∷ gs) on h = all_grows (is_dead s x) (is_dead s g) (all_of (deads ss hs)) (all_of (deads ss gs)) on.0.stays_dead (all_stay ss hs gs on.1) h
 
-either_grows : (a b x y : Bool) → (a ≡ true → x ≡ true) → (b ≡ true → y ≡ true) → (a || b) ≡ true → (x || y) ≡ true
+pub either_grows : (a b x y : Bool) → (a ≡ true → x ≡ true) → (b ≡ true → y ≡ true) → (a || b) ≡ true → (x || y) ≡ true
 either_grows true b x y f g h = let is : x ≡ true = f refl in rw is refl
 either_grows false b true y f g h = refl
 either_grows false b false y f g h = g h
@@ -143,12 +143,12 @@ known_before None true n u lt = grind (arith, nat_tests)
 known_before None false n u lt = refl
 known_before (Some k) over n u lt = refl
 
-within_by : (stopped : Option ℕ) (over : Bool) (n : ℕ) → IsWithin stopped n → IsWithin (stopped_with stopped over (n + 1)) (n + 1)
+pub within_by : (stopped : Option ℕ) (over : Bool) (n : ℕ) → IsWithin stopped n → IsWithin (stopped_with stopped over (n + 1)) (n + 1)
 within_by None true n w = omega arith
 within_by None false n w = tt
 within_by (Some k) over n w = omega arith
 
-now_by : (stopped : Option ℕ) (was over : Bool) (n : ℕ) → is_some stopped ≡ was → (was ≡ true → over ≡ true) → is_some (stopped_with stopped over n) ≡ over
+pub now_by : (stopped : Option ℕ) (was over : Bool) (n : ℕ) → is_some stopped ≡ was → (was ≡ true → over ≡ true) → is_some (stopped_with stopped over n) ≡ over
 now_by None was true n e f = refl
 now_by None was false n e f = refl
 now_by (Some k) was over n e f = sym (f (sym e))
@@ -162,7 +162,7 @@ last_by : (b : Bool) (u n : ℕ) → b ≡ nat_le u n → u ≤ n + 1 → (u ≤
 last_by true u n e le = inl (grind (arith, nat_tests))
 last_by false u n e le = let above : n < u = grind (arith, nat_tests) in inr (omega arith)
 
-last_or : (u n : ℕ) → u ≤ n + 1 → (u ≤ n) ⊎ (u ≡ n + 1)
+pub last_or : (u n : ℕ) → u ≤ n + 1 → (u ≤ n) ⊎ (u ≡ n + 1)
 last_or u n le = last_by (nat_le u n) u n refl le
 
 -- one packet more
@@ -235,11 +235,11 @@ fed_on {S} {ghosts} state old new seats given p stop k infos on len count stoppe
       (let within : IsWithin new.stopped (length given + 1) = rw whole at watches.within in known_now new.stopped (length given + 1) within ∙ sym told),
     )
 
-within_first : (over : Bool) → IsWithin (stopped_with None over 0) 0
+pub within_first : (over : Bool) → IsWithin (stopped_with None over 0) 0
 within_first true = omega arith
 within_first false = tt
 
-now_first : (over : Bool) → is_some (stopped_with None over 0) ≡ over
+pub now_first : (over : Bool) → is_some (stopped_with None over 0) ≡ over
 now_first true = refl
 now_first false = refl
 

@@ -1,5 +1,5 @@
 -- Which streams and packets an output takes.
-use Rattle.std.specs.Prelude.{ℕ, ◌+◌, Bool, true, false, ◌&&◌, List, [], ◌∷◌, filter_map, Option, Some, None}
+use Rattle.std.specs.Prelude.{ℕ, ◌+◌, Bool, true, false, ◌&&◌, List, [], ◌∷◌, filter_map, Option}
 use Rattle.std.specs.List.{list_any, filter}
 use Rattle.std.specs.Option.{option_and_then}
 use Rattle.rmx_media.specs.declared.packet.Format.{Format}
@@ -9,12 +9,12 @@ use Rattle.rmx_media.specs.declared.streams.Kind.{Kind}
 use Rattle.rmx_media.specs.declared.streams.StreamInfo.{StreamInfo}
 use Rattle.rmx_media.specs.declared.streams.MuxStream.{MuxStream}
 use Rattle.rmx_media.specs.Streams.{kind_in}
-use Rattle.playlist.specs.declared.seg_options.SegOptions.{SegOptions}
 use Rattle.bsf_chain.specs.declared.filter.Filter.{Filter}
 use Rattle.bsf_chain.specs.Apply.{result_of}
 use Rattle.options.specs.declared.select.Spec.{Spec}
 use Rattle.options.specs.Slave.{Slave}
 pub use Rattle.options.specs.Filters.{is_audio, is_video, selects, filters_for}
+pub use Rattle.slave.specs.Segments.{file_format}
 
 -- whether files of that format take streams of that kind
 abbrev pub takes_kind : Format → Kind → Bool
@@ -22,14 +22,6 @@ takes_kind Flv kind = true
 takes_kind Adts kind = is_audio kind
 takes_kind Mpegts kind = true
 takes_kind Segment kind = false
-
--- the format of the files that an output writes: that of each segment, where there are segments
-abbrev pub file_format : Format → Option SegOptions → Format
-file_format Flv seg = Flv
-file_format Adts seg = Adts
-file_format Mpegts seg = Mpegts
-file_format Segment None = Segment
-file_format Segment (Some options) = options.inner
 
 -- the streams of an input, numbered by their places from that one on
 abbrev pub numbered_from : ℕ → List StreamInfo → List MuxStream

@@ -7,7 +7,6 @@ use Rattle.rmx_edge.specs.Shelf.{ShelfState}
 use Rattle.rmx_edge.specs.declared.shelf.Shelf.{Ghosts}
 use Rattle.rmx_media.specs.declared.streams.MuxStreams.{MuxStreams}
 use Rattle.rmx_media.specs.declared.streams.StreamInfo.{StreamInfo}
-use Rattle.slave.specs.Calls.{IsBuilt}
 use Rattle.slave.specs.Prepared.{IsPrepared}
 use Rattle.tee.specs.Choice.{chosen_streams}
 use Rattle.tee.specs.Route.{IsRoute}
@@ -21,9 +20,8 @@ pub record IsDraft (infos : List StreamInfo) (script : Option (List ℕ)) (s : S
   pub streams : MuxStreams
   pub are_chosen : streams.streams.items ≡ chosen_streams s infos
   pub script_is : streams.script ≡ script
-  pub prepared : IsPrepared s.name s.format s.fifo streams draft.kit
+  pub prepared : IsPrepared s.name s.format s.seg s.fifo streams draft.kit
   pub valid : IsValid s
-  pub built : IsBuilt s.format
   pub abort : draft.choice.abort ≡ s.abort
   pub first : IsRoute (chosen_streams s infos) s.chains 0 draft.choice.first
   pub second : IsRoute (chosen_streams s infos) s.chains 1 draft.choice.second

@@ -14,7 +14,7 @@ use Rattle.bsf_chain.specs.declared.filter.Filter.{Filter}
 use Rattle.options.specs.Filters.{filters_for}
 use Rattle.options.specs.Valid.{IsValid}
 use Rattle.options.specs.declared.select.Spec.{Spec}
-use Rattle.slave.specs.Calls.{IsBuilt}
+use Rattle.slave.specs.Table.{Takes}
 use Rattle.tee.specs.Choice.{choice, chosen_streams}
 use Rattle.tee.specs.Seat.{Seat}
 use Rattle.tee.specs.declared.choice.Choice.{Choice}
@@ -45,7 +45,7 @@ pub record IsLeft (streams : List MuxStream) (chains : List (Spec × List Filter
 pub record IsPlaced (infos : List StreamInfo) (seat : Seat) (c : Choice) : Type 0 where
   pub valid : IsValid seat.slave
   pub format : seat.origin.format ≡ seat.slave.format
-  pub built : IsBuilt seat.origin.format
+  pub seg : seat.origin.seg ≡ seat.slave.seg
   pub streams : seat.origin.streams.streams.items ≡ chosen_streams seat.slave infos
   pub abort : c.abort ≡ seat.slave.abort
   pub first : IsRoute seat.origin.streams.streams.items seat.slave.chains 0 c.first
@@ -54,7 +54,7 @@ pub record IsPlaced (infos : List StreamInfo) (seat : Seat) (c : Choice) : Type 
 -- the output at a seat takes that of a packet
 pub record IsFiltered (seat : Seat) (p : Packet) (left : Option Packet) : Type 0 where
   pub is_choice : left ≡ choice seat.origin.streams.streams.items seat.slave.chains p
-  pub fits : IfSome left (Fits seat.origin.format seat.origin.streams)
+  pub fits : IfSome left (Takes seat.origin)
 
 abbrev pub AllFiltered : List Seat → Packet → List Filtered → Type 0
 AllFiltered [] p [] = Unit {0}

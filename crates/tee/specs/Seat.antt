@@ -22,6 +22,7 @@ pub record IsSeat (s : Slave) (infos : List StreamInfo) (script : Option (List �
   pub shelf_is : seat.origin.shelf ≡ with_count shelf 0 0
   pub name : seat.origin.name ≡ s.name
   pub format : seat.origin.format ≡ s.format
+  pub seg : seat.origin.seg ≡ s.seg
   pub streams : seat.origin.streams.streams.items ≡ chosen_streams s infos
   pub script_is : seat.origin.streams.script ≡ script
 

@@ -44,8 +44,8 @@ fn takes_kind(format: Format, kind: Kind) -> bool
     }
 }
 
-// The format of the files that an output writes.
-fn file_format(format: Format, seg: &Option<SegOptions>) -> Format
+/// The format of the files that an output writes.
+pub fn file_format(format: Format, seg: &Option<SegOptions>) -> Format
     ensures { result ≡ format_of_files format seg.now }
 {
     match format {

@@ -3,7 +3,6 @@ ghost use Rattle.std.specs.Prelude.{◌≡◌, ◌≢◌, ◌≤◌, length, opt
 ghost use Rattle.options.specs.Slave.{view};
 ghost use Rattle.options.specs.Valid.{IsValid};
 ghost use Rattle.rmx_media.specs.Streams.{AreInfos, CanMux, IsScript};
-ghost use Rattle.slave.specs.Calls.{IsBuilt};
 ghost use Rattle.slave.specs.Prepared.{IsPrepared};
 ghost use Rattle.tee.specs.Choice.{chosen_streams as streams_chosen};
 ghost use Rattle.tee.specs.None.{none_in};
@@ -12,6 +11,7 @@ use crate::choice::{Choice, chosen_streams};
 use crate::fault::TeeFault;
 use bytes::Bytes;
 use options::SlavePlan;
+use playlist::SegOptions;
 use rmx_media::{MuxStreams, NoMemory, StreamInfo};
 use slave::SlaveKit;
 use std::alloc::Global;
@@ -23,17 +23,26 @@ pub struct Draft {
     pub choice: Choice,
 }
 
+fn segments_of(alloc: Global, seg: &Option<SegOptions>) -> Result<Option<SegOptions>, NoMemory>
+    ensures { IfOk result (λ copy. copy ≡ seg.now) }
+{
+    match seg {
+        Some(options) => Ok(Some(options.copy(alloc)?)),
+        None => Ok(None),
+    }
+}
+
 fn kit_of(alloc: Global, plan: &SlavePlan, streams: MuxStreams) -> Result<SlaveKit, NoMemory>
     requires valid { IsValid (view plan.now) }
-    requires built { IsBuilt (view plan.now).format }
     requires streams { CanMux streams }
-    ensures { IfOk result (λ kit. IsPrepared (view plan.now).name (view plan.now).format (view plan.now).fifo streams kit) }
+    ensures { IfOk result (λ kit. IsPrepared (view plan.now).name (view plan.now).format (view plan.now).seg (view plan.now).fifo streams kit) }
 {
     let name = match String::from_str(alloc, plan.name.as_str()) {
         Ok(name) => name,
         Err(_) => return Err(NoMemory),
     };
-    SlaveKit::new(alloc, name, plan.format, plan.fifo, streams)
+    let seg = segments_of(alloc, &plan.seg)?;
+    SlaveKit::new(alloc, name, plan.format, seg, plan.fifo, streams)
 }
 
 impl Draft {
@@ -48,7 +57,6 @@ impl Draft {
         script: Option<&Bytes>,
     ) -> Result<Draft, TeeFault>
         requires valid { IsValid (view plan.now) }
-        requires built { IsBuilt (view plan.now).format }
         requires infos { AreInfos infos.now }
         requires script { IsScript (option_map (λ body. body.now) script) }
         ensures made { IfOk result (λ draft. IsDraft infos.now (option_map (λ body. body.now) script.entry) (view plan.now) draft) }

@@ -1,6 +1,7 @@
 //! All outputs of a run, fed as one.
 #![tactic(auto)]
 
+mod berth;
 mod choice;
 mod draft;
 mod ending;
@@ -8,10 +9,21 @@ mod fault;
 mod fed;
 mod feeding;
 mod filter;
+mod lanes;
+mod leaving;
 mod making;
+mod outlet;
 mod output;
+mod run;
+mod run_ending;
+mod run_feeding;
+mod run_making;
+mod sender;
+mod sending;
+mod starting;
 mod tee;
 
 pub use fault::{TeeFault, TeeRefused};
 pub use fed::Fed;
+pub use run::TeeRun;
 pub use tee::{Tee, TeeEnd};

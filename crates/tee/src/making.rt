@@ -5,7 +5,6 @@ ghost use Rattle.options.specs.Slave.{Slave, view};
 ghost use Rattle.options.specs.Valid.{IsValid};
 ghost use Rattle.rmx_media.specs.Streams.{AreInfos, IsScript};
 ghost use Rattle.rmx_media.specs.declared.streams.StreamInfo.{StreamInfo as Info};
-ghost use Rattle.slave.specs.Calls.{IsBuilt};
 ghost use Rattle.tee.specs.Draft.{AreOpen, IsDraft};
 ghost use Rattle.tee.specs.None.{none_in};
 ghost use Rattle.tee.specs.Seat.{first_without};
@@ -29,7 +28,6 @@ pub fn drafts_of(
 ) -> Result<Vec<Draft>, TeeFault>
     requires few { length slaves.now ≤ 16 }
     requires valid { All IsValid (map view slaves.now) }
-    requires built { All (λ s. IsBuilt s.format) (map view slaves.now) }
     requires infos { AreInfos infos.now }
     requires script { IsScript (option_map (λ body. body.now) script) }
     ensures made { IfOk result (λ drafts. AllZip (IsDraft infos.now (option_map (λ body. body.now) script.entry)) (map view slaves.now) drafts.items) }
@@ -55,7 +53,8 @@ pub struct Room<S: Shelf> {
     pub infos: Items<StreamInfo>,
 }
 
-fn copies(alloc: Global, infos: &[StreamInfo]) -> Result<Items<StreamInfo>, NoMemory>
+/// The same streams.
+pub fn copies(alloc: Global, infos: &[StreamInfo]) -> Result<Items<StreamInfo>, NoMemory>
     ensures { IfOk result (λ copies. copies.items ≡ infos.now) }
 {
     let mut copies = Vec::new(alloc);

@@ -2,9 +2,9 @@
 ghost use Rattle.std.specs.Prelude.{◌≡◌, ◌<◌, ◌++◌, ◌∷◌, [], ◌^◌, List, ℕ, Option, length, Some, false};
 ghost use Rattle.fifo_core.specs.History.{History};
 ghost use Rattle.options.specs.Slave.{Slave};
-ghost use Rattle.rmx_media.specs.Fits.{Fits};
 ghost use Rattle.rmx_media.specs.declared.packet.Packet.{Packet};
 ghost use Rattle.rmx_media.specs.declared.streams.StreamInfo.{StreamInfo as Info};
+ghost use Rattle.slave.specs.Table.{Takes};
 ghost use Rattle.tee.specs.Choice.{choice as choice_by};
 ghost use Rattle.tee.specs.Route.{IsFiltered, written};
 ghost use Rattle.tee.specs.Seat.{Seat};
@@ -58,12 +58,12 @@ impl<S: Shelf> TeeSlave<S> {
         job.finish_direct()
     }
 
-    // Writes a packet that it takes.
-    fn write(&mut self, p: &Packet)
+    /// Writes a packet that it takes.
+    pub fn write(&mut self, p: &Packet)
         requires ready { (infos : List Info) × (given : List Packet) × (seat : Seat) × (history : History) × Sits S.state infos given seat history self.old
-            × Fits seat.origin.format seat.origin.streams p.now × (length given < 2 ^ 61) }
+            × Takes seat.origin p.now × (length given < 2 ^ 61) }
         ensures { (infos : List Info) (given : List Packet) (seat : Seat) (history : History) (q : Packet) → Sits S.state infos given seat history self.old
-            → Some p.now ≡ choice_by seat.origin.streams.streams.items seat.slave.chains q → Fits seat.origin.format seat.origin.streams p.now
+            → Some p.now ≡ choice_by seat.origin.streams.streams.items seat.slave.chains q → Takes seat.origin p.now
             → SitsOn S.state infos (given ++ q ∷ []) seat history self.new }
     {
         self.job.write_direct(self.count, p);

@@ -8,7 +8,6 @@ ghost use Rattle.options.specs.Slave.{Slave};
 ghost use Rattle.options.specs.Valid.{IsValidPlan};
 ghost use Rattle.options.specs.Words.{plan_view};
 ghost use Rattle.rmx_media.specs.Streams.{AreInfos, IsScript};
-ghost use Rattle.slave.specs.Calls.{IsBuilt};
 ghost use Rattle.slave.specs.End.{end_view};
 ghost use Rattle.tee.specs.Ends.{EndsAll};
 ghost use Rattle.tee.specs.Fails.{any_want, failed_slave, stops};
@@ -155,7 +154,6 @@ impl<S: Shelf + Drop> Tee<S> {
         requires sixteen { length shelves.items ≡ 16 }
         requires idle { All (λ s. (S.state s).writing ≡ false) shelves.items }
         requires valid { IsValidPlan (plan_view plan.now) }
-        requires built { All (λ s. IsBuilt s.format) (plan_view plan.now).slaves }
         requires infos { AreInfos infos.now }
         requires script { IsScript (option_map (λ body. body.now) script) }
         ensures made { IfOk result (λ t. (seats : List Seat)

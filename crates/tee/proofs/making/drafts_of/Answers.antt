@@ -4,7 +4,6 @@ use Rattle.std.specs.Option.{option_map}
 use Rattle.options.specs.Slave.{view}
 use Rattle.options.specs.Valid.{IsValid}
 use Rattle.options.specs.declared.slave.SlavePlan.{SlavePlan}
-use Rattle.slave.specs.Calls.{IsBuilt}
 use Rattle.tee.specs.Choice.{chosen_streams}
 use Rattle.tee.specs.Draft.{IsDraft}
 use Rattle.tee.specs.declared.draft.Draft.{Draft}
@@ -16,12 +15,6 @@ pub new-requires-clause-valid : goal.new-requires-clause-valid
 new-requires-clause-valid c =
     let x = c.index-slaves-number.result in
     subst (λ (plan : SlavePlan). IsValid (view plan)) (sym c.index-slaves-number.is) (all_map IsValid view c.args.slaves.now c.loop-number.number x c.requires.valid (omega arith))
-
-pub new-requires-clause-built : goal.new-requires-clause-built
-new-requires-clause-built c =
-    let x = c.index-slaves-number.result in
-    subst (λ (plan : SlavePlan). IsBuilt (view plan).format) (sym c.index-slaves-number.is)
-    (all_map (λ s. IsBuilt s.format) view c.args.slaves.now c.loop-number.number x c.requires.built (omega arith))
 
 pub loop-number-preserved : goal.loop-number-preserved
 loop-number-preserved c =

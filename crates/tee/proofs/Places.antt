@@ -1,0 +1,224 @@
+-- Three lists, place by place, and loops over them.
+use Rattle.std.proofs.Common.{◌≡◌, ℕ, zero, suc, ◌<◌, ◌+◌, List, [], ◌∷◌, ◌++◌, length, get_or, set, drop, add-one, ◌≤◌, refl, sym, arith}
+use Rattle.std.specs.List.{AllZip}
+use Rattle.tee.specs.Each.{Each3, Between3}
+
+module _ {A B C : Type 0} (P Q : A → B → C → Type 0) where
+  pub each_map : (f : (a : A) (b : B) (c : C) → P a b c → Q a b c) (us : List A) (bs : List B) (cs : List C) → Each3 P us bs cs → Each3 Q us bs cs
+  each_map f [] [] [] e = tt
+  each_map f [] [] (c ∷ cs) e = absurd e
+  each_map f [] (b ∷ bs) cs e = absurd e
+  each_map f (a ∷ us) [] cs e = absurd e
+  each_map f (a ∷ us) (b ∷ bs) [] e = absurd e
+  each_map f (a ∷ us) (b ∷ bs) (c ∷ cs) e = (f a b c e.0, each_map f us bs cs e.1)
+
+  -- a place among the first
+  abbrev pub Somewhere : (A → B → C → Type 0) → C → Type 0
+  Somewhere R c = (a : A) × (b : B) × R a b c
+
+  pub all_at : (us : List A) (bs : List B) (cs : List C) (k : ℕ) (d : C) → Each3 P us bs cs → k < length cs → Somewhere P (get_or cs k d)
+  all_at [] [] [] k d e lt = absurd (omega arith)
+  all_at [] [] (c ∷ cs) k d e lt = absurd e
+  all_at [] (b ∷ bs) cs k d e lt = absurd e
+  all_at (a ∷ us) [] cs k d e lt = absurd e
+  all_at (a ∷ us) (b ∷ bs) [] k d e lt = absurd e
+  all_at (a ∷ us) (b ∷ bs) (c ∷ cs) zero d e lt = (a, b, e.0)
+  all_at (a ∷ us) (b ∷ bs) (c ∷ cs) (suc k) d e lt = all_at us bs cs k d e.1 (omega arith)
+
+  -- the next place still has P
+  pub next_at : (us : List A) (bs : List B) (cs : List C) (k : ℕ) (d : C) → Between3 P Q k us bs cs → k < length cs → Somewhere P (get_or cs k d)
+  next_at us bs cs zero d e lt = all_at us bs cs zero d e lt
+  next_at [] [] [] (suc k) d e lt = absurd (omega arith)
+  next_at [] [] (c ∷ cs) (suc k) d e lt = absurd e
+  next_at [] (b ∷ bs) cs (suc k) d e lt = absurd e
+  next_at (a ∷ us) [] cs (suc k) d e lt = absurd e
+  next_at (a ∷ us) (b ∷ bs) [] (suc k) d e lt = absurd e
+  next_at (a ∷ us) (b ∷ bs) (c ∷ cs) (suc k) d e lt = next_at us bs cs k d e.1 (omega arith)
+
+  -- and then it has Q
+  pub next_set : (us : List A) (bs : List B) (cs : List C) (k : ℕ) (d new : C) → Between3 P Q k us bs cs → k < length cs
+      → ((a : A) (b : B) → P a b (get_or cs k d) → Q a b new) → Between3 P Q (suc k) us bs (set cs k new)
+  next_set [] [] [] k d new e lt f = absurd (omega arith)
+  next_set [] [] (c ∷ cs) zero d new e lt f = absurd e
+  next_set [] [] (c ∷ cs) (suc k) d new e lt f = absurd e
+  next_set [] (b ∷ bs) cs zero d new e lt f = absurd e
+  next_set [] (b ∷ bs) cs (suc k) d new e lt f = absurd e
+  next_set (a ∷ us) [] cs zero d new e lt f = absurd e
+  next_set (a ∷ us) [] cs (suc k) d new e lt f = absurd e
+  next_set (a ∷ us) (b ∷ bs) [] k d new e lt f = absurd (omega arith)
+  next_set (a ∷ us) (b ∷ bs) (c ∷ cs) zero d new e lt f = (f a b e.0, e.1)
+  next_set (a ∷ us) (b ∷ bs) (c ∷ cs) (suc k) d new e lt f = (e.0, next_set us bs cs k d new e.1 (omega arith) f)
+
+  pub set_next : (us : List A) (bs : List B) (cs : List C) (k : ℕ) (d new : C) → Between3 P Q k us bs cs → k < length cs
+      → ((a : A) (b : B) → P a b (get_or cs k d) → Q a b new) → Between3 P Q (k + 1) us bs (set cs k new)
+  set_next us bs cs k d new e lt f = rw add-one (next_set us bs cs k d new e lt f)
+
+  pub all_done : (us : List A) (bs : List B) (cs : List C) (k : ℕ) → Between3 P Q k us bs cs → k ≡ length cs → Each3 Q us bs cs
+  all_done [] [] [] k e same = tt
+  all_done [] [] (c ∷ cs) zero e same = absurd e
+  all_done [] [] (c ∷ cs) (suc k) e same = absurd e
+  all_done [] (b ∷ bs) cs zero e same = absurd e
+  all_done [] (b ∷ bs) cs (suc k) e same = absurd e
+  all_done (a ∷ us) [] cs zero e same = absurd e
+  all_done (a ∷ us) [] cs (suc k) e same = absurd e
+  all_done (a ∷ us) (b ∷ bs) [] zero e same = absurd e
+  all_done (a ∷ us) (b ∷ bs) [] (suc k) e same = absurd e
+  all_done (a ∷ us) (b ∷ bs) (c ∷ cs) zero e same = absurd (omega arith)
+  all_done (a ∷ us) (b ∷ bs) (c ∷ cs) (suc k) e same = (e.0, all_done us bs cs k e.1 (omega arith))
+
+-- loops that also go through a list of what belongs to the first third
+module _ {A B C D : Type 0} (P Q : A → B → C → Type 0) (R : A → D → Type 0) where
+  all_with : (us : List A) (bs : List B) (cs : List C) (ds : List D) (k : ℕ) (d : C) (x : D) → Each3 P us bs cs → AllZip R us ds → k < length cs → (a : A) × (b : B) × P a b (get_or cs k d) × R a (get_or ds k x)
+  all_with [] [] [] ds k d x e z lt = absurd (omega arith)
+  all_with [] [] (c ∷ cs) ds k d x e z lt = absurd e
+  all_with [] (b ∷ bs) cs ds k d x e z lt = absurd e
+  all_with (a ∷ us) [] cs ds k d x e z lt = absurd e
+  all_with (a ∷ us) (b ∷ bs) [] ds k d x e z lt = absurd e
+  all_with (a ∷ us) (b ∷ bs) (c ∷ cs) [] k d x e z lt = absurd z
+  all_with (a ∷ us) (b ∷ bs) (c ∷ cs) (y ∷ ds) zero d x e z lt = (a, b, e.0, z.0)
+  all_with (a ∷ us) (b ∷ bs) (c ∷ cs) (y ∷ ds) (suc k) d x e z lt = all_with us bs cs ds k d x e.1 z.1 (omega arith)
+
+  pub next_with : (us : List A) (bs : List B) (cs : List C) (ds : List D) (k : ℕ) (d : C) (x : D) → Between3 P Q k us bs cs → AllZip R us ds → k < length cs
+      → (a : A) × (b : B) × P a b (get_or cs k d) × R a (get_or ds k x)
+  next_with us bs cs ds zero d x e z lt = all_with us bs cs ds zero d x e z lt
+  next_with [] [] [] ds (suc k) d x e z lt = absurd (omega arith)
+  next_with [] [] (c ∷ cs) ds (suc k) d x e z lt = absurd e
+  next_with [] (b ∷ bs) cs ds (suc k) d x e z lt = absurd e
+  next_with (a ∷ us) [] cs ds (suc k) d x e z lt = absurd e
+  next_with (a ∷ us) (b ∷ bs) [] ds (suc k) d x e z lt = absurd e
+  next_with (a ∷ us) (b ∷ bs) (c ∷ cs) [] (suc k) d x e z lt = absurd z
+  next_with (a ∷ us) (b ∷ bs) (c ∷ cs) (y ∷ ds) (suc k) d x e z lt = next_with us bs cs ds k d x e.1 z.1 (omega arith)
+
+  pub set_with : (us : List A) (bs : List B) (cs : List C) (ds : List D) (k : ℕ) (d new : C) (x : D) → Between3 P Q k us bs cs → AllZip R us ds → k < length cs
+      → ((a : A) (b : B) → P a b (get_or cs k d) → R a (get_or ds k x) → Q a b new) → Between3 P Q (suc k) us bs (set cs k new)
+  set_with [] [] [] ds k d new x e z lt f = absurd (omega arith)
+  set_with [] [] (c ∷ cs) ds zero d new x e z lt f = absurd e
+  set_with [] [] (c ∷ cs) ds (suc k) d new x e z lt f = absurd e
+  set_with [] (b ∷ bs) cs ds zero d new x e z lt f = absurd e
+  set_with [] (b ∷ bs) cs ds (suc k) d new x e z lt f = absurd e
+  set_with (a ∷ us) [] cs ds zero d new x e z lt f = absurd e
+  set_with (a ∷ us) [] cs ds (suc k) d new x e z lt f = absurd e
+  set_with (a ∷ us) (b ∷ bs) [] ds k d new x e z lt f = absurd (omega arith)
+  set_with (a ∷ us) (b ∷ bs) (c ∷ cs) [] k d new x e z lt f = absurd z
+  set_with (a ∷ us) (b ∷ bs) (c ∷ cs) (y ∷ ds) zero d new x e z lt f = (f a b e.0 z.0, e.1)
+  set_with (a ∷ us) (b ∷ bs) (c ∷ cs) (y ∷ ds) (suc k) d new x e z lt f = (e.0, set_with us bs cs ds k d new x e.1 z.1 (omega arith) f)
+
+  pub set_next_with : (us : List A) (bs : List B) (cs : List C) (ds : List D) (k : ℕ) (d new : C) (x : D) → Between3 P Q k us bs cs → AllZip R us ds → k < length cs
+      → ((a : A) (b : B) → P a b (get_or cs k d) → R a (get_or ds k x) → Q a b new) → Between3 P Q (k + 1) us bs (set cs k new)
+  set_next_with us bs cs ds k d new x e z lt f = rw add-one (set_with us bs cs ds k d new x e z lt f)
+
+  pub as_many_with : (us : List A) (bs : List B) (cs : List C) (ds : List D) → Each3 P us bs cs → AllZip R us ds → length ds ≡ length cs
+  as_many_with [] [] [] [] e z = refl
+  as_many_with [] [] [] (y ∷ ds) e z = absurd z
+  as_many_with [] [] (c ∷ cs) ds e z = absurd e
+  as_many_with [] (b ∷ bs) cs ds e z = absurd e
+  as_many_with (a ∷ us) [] cs ds e z = absurd e
+  as_many_with (a ∷ us) (b ∷ bs) [] ds e z = absurd e
+  as_many_with (a ∷ us) (b ∷ bs) (c ∷ cs) [] e z = absurd z
+  as_many_with (a ∷ us) (b ∷ bs) (c ∷ cs) (y ∷ ds) e z = omega (arith, as_many_with us bs cs ds e.1 z.1)
+
+-- one place may change
+pub each_set : {A B C : Type 0} (P : A → B → C → Type 0) (us : List A) (bs : List B) (cs : List C) (k : ℕ) (d new : C) → Each3 P us bs cs → k < length cs
+    → ((a : A) (b : B) → P a b (get_or cs k d) → P a b new) → Each3 P us bs (set cs k new)
+each_set P [] [] [] k d new e lt f = absurd (omega arith)
+each_set P [] [] (c ∷ cs) k d new e lt f = absurd e
+each_set P [] (b ∷ bs) cs k d new e lt f = absurd e
+each_set P (a ∷ us) [] cs k d new e lt f = absurd e
+each_set P (a ∷ us) (b ∷ bs) [] k d new e lt f = absurd e
+each_set P (a ∷ us) (b ∷ bs) (c ∷ cs) zero d new e lt f = (f a b e.0, e.1)
+each_set P (a ∷ us) (b ∷ bs) (c ∷ cs) (suc k) d new e lt f = (e.0, each_set P us bs cs k d new e.1 (omega arith) f)
+
+-- the next item of a list
+pub none_dropped : {X : Type 0} (xs : List X) (k : ℕ) → drop k xs ≡ [] → length xs ≤ k
+none_dropped [] k e = omega arith
+none_dropped (x ∷ xs) zero e = absurd cc
+none_dropped (x ∷ xs) (suc k) e = let r = none_dropped xs k e in omega (arith, r)
+
+next_dropped : {X : Type 0} (xs : List X) (k : ℕ) (x : X) (rest : List X) → drop k xs ≡ x ∷ rest → (get_or xs k x ≡ x) × (drop (suc k) xs ≡ rest)
+next_dropped [] zero x rest e = absurd cc
+next_dropped [] (suc k) x rest e = absurd cc
+next_dropped (y ∷ xs) zero x rest e = (cc, cc)
+next_dropped (y ∷ xs) (suc k) x rest e = next_dropped xs k x rest e
+
+pub item_next : {X : Type 0} (xs : List X) (k : ℕ) (x : X) (rest : List X) → drop k xs ≡ x ∷ rest → (get_or xs k x ≡ x) × (rest ≡ drop (k + 1) xs)
+item_next xs k x rest e = let n = next_dropped xs k x rest e in (n.0, rw add-one (sym n.1))
+
+-- the first k places may be no more than the others
+pub between_weaker : {A B C : Type 0} (P Q : A → B → C → Type 0) (f : (a : A) (b : B) (c : C) → Q a b c → P a b c) (k : ℕ) (us : List A) (bs : List B) (cs : List C)
+    → Between3 P Q k us bs cs → Each3 P us bs cs
+between_weaker P Q f zero us bs cs e = e
+between_weaker P Q f (suc k) [] [] [] e = tt
+between_weaker P Q f (suc k) [] [] (c ∷ cs) e = absurd e
+between_weaker P Q f (suc k) [] (b ∷ bs) cs e = absurd e
+between_weaker P Q f (suc k) (a ∷ us) [] cs e = absurd e
+between_weaker P Q f (suc k) (a ∷ us) (b ∷ bs) [] e = absurd e
+between_weaker P Q f (suc k) (a ∷ us) (b ∷ bs) (c ∷ cs) e = (f a b c e.0, between_weaker P Q f k us bs cs e.1)
+
+module _ {A B C : Type 0} (P : A → B → C → Type 0) where
+  -- one more place
+  pub each_snoc : (us : List A) (bs : List B) (cs : List C) (a : A) (b : B) (c : C) → Each3 P us bs cs → P a b c → Each3 P (us ++ a ∷ []) (bs ++ b ∷ []) (cs ++ c ∷ [])
+  each_snoc [] [] [] a b c e p = (p, tt)
+  each_snoc [] [] (z ∷ cs) a b c e p = absurd e
+  each_snoc [] (y ∷ bs) cs a b c e p = absurd e
+  each_snoc (x ∷ us) [] cs a b c e p = absurd e
+  each_snoc (x ∷ us) (y ∷ bs) [] a b c e p = absurd e
+  each_snoc (x ∷ us) (y ∷ bs) (z ∷ cs) a b c e p = (e.0, each_snoc us bs cs a b c e.1 p)
+
+  pub each_among : (us : List A) (bs : List B) (front : List C) (c : C) (back : List C) → Each3 P us bs (front ++ c ∷ back) → (a : A) × (b : B) × P a b c
+  each_among [] [] [] c back e = absurd e
+  each_among [] [] (x ∷ front) c back e = absurd e
+  each_among [] (b ∷ bs) [] c back e = absurd e
+  each_among [] (b ∷ bs) (x ∷ front) c back e = absurd e
+  each_among (a ∷ us) [] [] c back e = absurd e
+  each_among (a ∷ us) [] (x ∷ front) c back e = absurd e
+  each_among (a ∷ us) (b ∷ bs) [] c back e = (a, b, e.0)
+  each_among (a ∷ us) (b ∷ bs) (x ∷ front) c back e = each_among us bs front c back e.1
+
+-- what is made of each third
+pub each_through : {A B C D : Type 0} (P : A → B → C → Type 0) (R : C → D → Type 0) (Q : A → B → D → Type 0) (f : (a : A) (b : B) (c : C) (d : D) → P a b c → R c d → Q a b d)
+    (us : List A) (bs : List B) (cs : List C) (ds : List D) → Each3 P us bs cs → AllZip R cs ds → Each3 Q us bs ds
+each_through P R Q f [] [] [] [] e z = tt
+each_through P R Q f [] [] [] (d ∷ ds) e z = absurd z
+each_through P R Q f [] [] (c ∷ cs) ds e z = absurd e
+each_through P R Q f [] (b ∷ bs) cs ds e z = absurd e
+each_through P R Q f (a ∷ us) [] cs ds e z = absurd e
+each_through P R Q f (a ∷ us) (b ∷ bs) [] ds e z = absurd e
+each_through P R Q f (a ∷ us) (b ∷ bs) (c ∷ cs) [] e z = absurd z
+each_through P R Q f (a ∷ us) (b ∷ bs) (c ∷ cs) (d ∷ ds) e z = (f a b c d e.0 z.0, each_through P R Q f us bs cs ds e.1 z.1)
+
+-- where each place has a new second for its third, there is a list of these
+pub record Renewed {A B C D : Type 0} (Q : A → D → C → Type 0) (R : A → B → D → Type 0) (us : List A) (bs : List B) (cs : List C) : Type 0 where
+  pub list : List D
+  pub each : Each3 Q us list cs
+  pub from : Each3 R us bs list
+
+pub each_renewed : {A B C D : Type 0} (Q : A → D → C → Type 0) (R : A → B → D → Type 0) (us : List A) (bs : List B) (cs : List C)
+    → Each3 (λ a b c. (d : D) × Q a d c × R a b d) us bs cs → Renewed Q R us bs cs
+each_renewed Q R [] [] [] e = record { list = []; each = tt; from = tt }
+each_renewed Q R [] [] (c ∷ cs) e = absurd e
+each_renewed Q R [] (b ∷ bs) cs e = absurd e
+each_renewed Q R (a ∷ us) [] cs e = absurd e
+each_renewed Q R (a ∷ us) (b ∷ bs) [] e = absurd e
+each_renewed Q R (a ∷ us) (b ∷ bs) (c ∷ cs) e =
+    let r = each_renewed Q R us bs cs e.1 in
+    record { list = e.0.0 ∷ r.list; each = (e.0.1, r.each); from = (e.0.2, r.from) }
+
+-- one relation behind another
+pub each_then : {A B C D : Type 0} (P : A → B → C → Type 0) (R : A → C → D → Type 0) (Q : A → B → D → Type 0) (f : (a : A) (b : B) (c : C) (d : D) → P a b c → R a c d → Q a b d)
+    (us : List A) (bs : List B) (cs : List C) (ds : List D) → Each3 P us bs cs → Each3 R us cs ds → Each3 Q us bs ds
+each_then P R Q f [] [] [] [] e z = tt
+each_then P R Q f [] [] [] (d ∷ ds) e z = absurd z
+each_then P R Q f [] [] (c ∷ cs) ds e z = absurd e
+each_then P R Q f [] (b ∷ bs) cs ds e z = absurd e
+each_then P R Q f (a ∷ us) [] cs ds e z = absurd e
+each_then P R Q f (a ∷ us) (b ∷ bs) [] ds e z = absurd e
+each_then P R Q f (a ∷ us) (b ∷ bs) (c ∷ cs) [] e z = absurd z
+each_then P R Q f (a ∷ us) (b ∷ bs) (c ∷ cs) (d ∷ ds) e z = (f a b c d e.0 z.0, each_then P R Q f us bs cs ds e.1 z.1)
+
+pub each_length : {A B C : Type 0} (P : A → B → C → Type 0) (us : List A) (bs : List B) (cs : List C) → Each3 P us bs cs → length us ≡ length cs
+each_length P [] [] [] e = refl
+each_length P [] [] (c ∷ cs) e = absurd e
+each_length P [] (b ∷ bs) cs e = absurd e
+each_length P (a ∷ us) [] cs e = absurd e
+each_length P (a ∷ us) (b ∷ bs) [] e = absurd e
+each_length P (a ∷ us) (b ∷ bs) (c ∷ cs) e = omega (arith, each_length P us bs cs e.1)

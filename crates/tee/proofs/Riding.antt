@@ -1,0 +1,144 @@
+-- An output with a thread of its own, as packets come.
+use Rattle.std.proofs.Common.{◌≡◌, ◌+◌, ℕ, List, [], ◌∷◌, ◌++◌, length, length-append, Bool, true, false, Option, Some, None, refl, sym, ◌∙◌, ap, subst, arith, inl, inr}
+use Rattle.std.specs.Prelude.{is_some}
+use Rattle.std.specs.Arc.{arc_value}
+use Rattle.lane.specs.declared.msg.Msg.{Msg}
+use Rattle.lane.specs.Sides.{ReceiptSide}
+use Rattle.lane.specs.Told.{GiverNow, first_told}
+use Rattle.rmx_media.specs.declared.packet.Packet.{Packet}
+use Rattle.rmx_media.specs.declared.streams.StreamInfo.{StreamInfo}
+use Rattle.tee.specs.Choice.{choice}
+use Rattle.slave.specs.Handed.{message}
+use Rattle.tee.specs.Offers.{Offered}
+use Rattle.tee.specs.Keeps.{IsWithin}
+use Rattle.tee.specs.Rides.{Goes, Hands, Rides, SameEnd}
+use Rattle.tee.specs.Seat.{Seat, chosen}
+use Rattle.tee.specs.Tracks.{ToldBy}
+use Rattle.tee.specs.declared.sender.Sender.{Sender}
+use Rattle.tee.proofs.Offering.{offered_given, offered_refused}
+use Rattle.tee.proofs.Outputs.{chosen_none, chosen_one}
+
+offered_more : (n cap limit : ℕ) (L : List Packet) (old new : GiverNow) (before after : List ReceiptSide) (p : Packet) → Offered cap limit L old before → n ≡ cap → old.about.limit ≡ limit
+    → Goes n (message (length L) p) old new before after → Offered cap limit (L ++ p ∷ []) new after
+offered_more n cap limit L old new before after p d same_cap same_limit gone = elim gone [
+  | inl h ↦ subst (λ (rs : List ReceiptSide). Offered cap limit (L ++ p ∷ []) new rs) (sym h.1) (offered_given n cap limit L old new before p d h.0)
+  | inr h ↦ subst (λ (rs : List ReceiptSide). Offered cap limit (L ++ p ∷ []) new rs) (sym h.3) (offered_refused n cap limit L old new before p h.0 h.1 d same_cap same_limit h.2)
+]
+
+-- what an offer leaves of the giver as it was
+record Left (old new : GiverNow) : Type 0 where
+  ring : new.ring ≡ old.ring
+  about : new.about ≡ old.about
+  closed : new.closed ≡ old.closed
+  asked : new.asked ≡ old.asked
+  told : new.told ≡ old.told
+
+left_by : (n : ℕ) (m : Msg) (old new : GiverNow) (before after : List ReceiptSide) → Goes n m old new before after → Left old new
+left_by n m old new before after gone = elim gone [
+  | inl h ↦ record {
+    ring = ap (λ (g : GiverNow). g.ring) h.0.given;
+    about = ap (λ (g : GiverNow). g.about) h.0.given;
+    closed = ap (λ (g : GiverNow). g.closed) h.0.given;
+    asked = ap (λ (g : GiverNow). g.asked) h.0.given;
+    told = ap (λ (g : GiverNow). g.told) h.0.given;
+  }
+  | inr h ↦ record {
+    ring = ap (λ (g : GiverNow). g.ring) h.2.refused;
+    about = ap (λ (g : GiverNow). g.about) h.2.refused;
+    closed = ap (λ (g : GiverNow). g.closed) h.2.refused;
+    asked = ap (λ (g : GiverNow). g.asked) h.2.refused;
+    told = ap (λ (g : GiverNow). g.told) h.2.refused;
+  }
+]
+
+pub hands_same : (m : Msg) (old new : Sender) → Hands m old new → SameEnd old new
+hands_same m old new h =
+    let l = left_by (arc_value old.lane).cap m old.giver new.giver old.receipts.items new.receipts.items h.gone in
+    record { ring = l.ring; about = l.about; closed = l.closed }
+
+-- it was offered a packet that it takes
+pub rides_more : (infos : List StreamInfo) (given : List Packet) (asked : ℕ) (seat : Seat) (told : Option ℕ) (q p : Packet) (m : Msg) (old mid new : Sender) → Rides infos given asked seat told old
+    → Some p ≡ choice seat.origin.streams.streams.items seat.slave.chains q → Hands m old mid → m ≡ message old.count p
+    → new.lane ≡ mid.lane → new.giver ≡ mid.giver → new.receipts.items ≡ mid.receipts.items → new.choice ≡ mid.choice → new.cap ≡ mid.cap → new.drops ≡ mid.drops → new.failed ≡ mid.failed → new.count ≡ old.count + 1
+    → Rides infos (given ++ q ∷ []) asked seat told new
+rides_more infos given asked seat told q p m old mid new r e h is lane giver receipts choice_is cap drops failed count =
+    let L = chosen seat given in
+    let more : chosen seat (given ++ q ∷ []) ≡ L ++ p ∷ [] = chosen_one seat given q p e in
+    let n = (arc_value old.lane).cap in
+    let l = left_by n m old.giver mid.giver old.receipts.items mid.receipts.items h.gone in
+    let here : m ≡ message (length L) p = is ∙ ap (λ (i : ℕ). message i p) r.count in
+    let gone : Goes n (message (length L) p) old.giver mid.giver old.receipts.items mid.receipts.items
+    = subst (λ (x : Msg). Goes n x old.giver mid.giver old.receipts.items mid.receipts.items) here h.gone in
+    let offered = offered_more n seat.slave.fifo.queue_size seat.slave.fifo.queue_bytes L old.giver mid.giver old.receipts.items mid.receipts.items p r.offered r.lane.cap_is r.lane.limit gone in
+    record {
+      placed = rw (choice_is, h.choice) r.placed;
+      threaded = r.threaded;
+      lane = rw (lane, giver, h.lane, l.about) r.lane;
+      offered = rw (giver, receipts, more) offered;
+      count = rw more (omega (arith, count, r.count, length-append L (p ∷ [])));
+      cap = cap ∙ h.cap ∙ r.cap;
+      drops = drops ∙ h.drops ∙ r.drops;
+      asked_is = rw giver (l.asked ∙ r.asked_is);
+      told_is = rw giver (l.told ∙ r.told_is);
+      knows = failed ∙ h.failed ∙ r.knows;
+      within = r.within;
+    }
+
+-- it takes nothing of a packet
+pub rides_same : (infos : List StreamInfo) (given : List Packet) (asked : ℕ) (seat : Seat) (told : Option ℕ) (q : Packet) (s : Sender) → Rides infos given asked seat told s
+    → None ≡ choice seat.origin.streams.streams.items seat.slave.chains q → Rides infos (given ++ q ∷ []) asked seat told s
+rides_same infos given asked seat told q s r e =
+    let same : chosen seat (given ++ q ∷ []) ≡ chosen seat given = chosen_none seat given q e in
+    record {
+      placed = r.placed;
+      threaded = r.threaded;
+      lane = r.lane;
+      offered = rw same r.offered;
+      count = rw same r.count;
+      cap = r.cap;
+      drops = r.drops;
+      asked_is = r.asked_is;
+      told_is = r.told_is;
+      knows = r.knows;
+      within = r.within;
+    }
+
+told_as : (told : Option ℕ) (n : ℕ) (said : Bool) → ((v : ℕ) → told ≡ Some v → said ≡ true) → said ≡ is_some (first_told told n said)
+told_as None n true f = refl
+told_as None n false f = refl
+told_as (Some v) n said f = f v refl
+
+told_by : (told : Option ℕ) (n : ℕ) (said : Bool) → ToldBy n told (first_told told n said)
+told_by None n true = inr (refl, refl)
+told_by None n false = inl refl
+told_by (Some v) n said = inl refl
+
+told_within : (told : Option ℕ) (n : ℕ) (said : Bool) → IsWithin told n → IsWithin (first_told told (n + 1) said) (n + 1)
+told_within None n true w = omega arith
+told_within None n false w = tt
+told_within (Some v) n said w = omega arith
+
+-- it was asked once more
+pub rides_asked : (infos : List StreamInfo) (given : List Packet) (asked : ℕ) (seat : Seat) (told : Option ℕ) (old new : Sender) (said : Bool) → Rides infos given asked seat told old
+    → new.lane ≡ old.lane → new.receipts.items ≡ old.receipts.items → new.choice ≡ old.choice → new.count ≡ old.count → new.cap ≡ old.cap → new.drops ≡ old.drops → new.failed ≡ said
+    → new.giver ≡ record old.giver { asked = old.giver.asked + 1; told = first_told old.giver.told (old.giver.asked + 1) said }
+    → ((v : ℕ) → old.giver.told ≡ Some v → said ≡ true)
+    → (after : Option ℕ) × Rides infos given (asked + 1) seat after new × ToldBy (asked + 1) told after
+rides_asked infos given asked seat told old new said r lane receipts choice_is count cap drops failed giver again =
+    let now : first_told old.giver.told (old.giver.asked + 1) said ≡ first_told told (asked + 1) said = rw (r.told_is, r.asked_is) refl in (
+      first_told told (asked + 1) said,
+      record {
+        placed = rw choice_is r.placed;
+        threaded = r.threaded;
+        lane = rw (lane, giver) r.lane;
+        offered = rw (giver, receipts) (record { handed = r.offered.handed; counted = r.offered.counted; next = r.offered.next });
+        count = count ∙ r.count;
+        cap = cap ∙ r.cap;
+        drops = drops ∙ r.drops;
+        asked_is = rw (giver, r.asked_is) refl;
+        told_is = rw giver now;
+        knows = failed ∙ told_as told (asked + 1) said (λ v e. again v (r.told_is ∙ e));
+        within = told_within told asked said r.within;
+      },
+      told_by told (asked + 1) said,
+    )
