@@ -15,7 +15,7 @@ use Rattle.flv_tags.specs.Tags.{Begins}
 use Rattle.interleaver.specs.Interleave.{Line, put_in, is_before, release, arrive, line_of, no_line}
 use Rattle.interleaver.specs.Queues.{Pending}
 use Rattle.interleaver.proofs.Steps.{release_whole}
-use Rattle.tee.specs.Seat.{Seat}
+use Rattle.remux.specs.Lineup.{Lineup}
 use Rattle.remux.specs.Fed.{Takes}
 use Rattle.remux.specs.Flow.{Flow}
 use Rattle.remux.specs.Demuxed.{Gives}
@@ -108,8 +108,8 @@ ready_all s b given v tags small f g = omega (arith, few_packets (packets_by s t
 pub fewer_still : (given : List Packet) (p : Packet) (xs ys : List Packet) → xs ≡ p ∷ ys → length given + length xs < 2 ^ 61 → length given < 2 ^ 61
 fewer_still given p xs ys e h = omega (arith, ap length e, h)
 
-pub ready_next : (stopped : Bool) (p : Packet) (xs ys : List Packet) (kept keeps : List Seat → List Packet → Type 0) (d0 d1 : ℕ → Bool) (start : List Seat) (given : List Packet) → kept start given → xs ≡ p ∷ ys → length given + length xs < 2 ^ 61 → Takes stopped p (kept start) (keeps start) d0 d1 →
-    (start : List Seat) × (given : List Packet) × keeps start given × (length given + length ys < 2 ^ 61)
+pub ready_next : (stopped : Bool) (p : Packet) (xs ys : List Packet) (kept keeps : Lineup → List Packet → Type 0) (d0 d1 : ℕ → Bool) (start : Lineup) (given : List Packet) → kept start given → xs ≡ p ∷ ys → length given + length xs < 2 ^ 61 → Takes stopped p (kept start) (keeps start) d0 d1 →
+    (start : Lineup) × (given : List Packet) × keeps start given × (length given + length ys < 2 ^ 61)
 ready_next stopped p xs ys kept keeps d0 d1 start given k e h t =
     (start, given ++ p ∷ [], t.keeps_all given k, omega (arith, ap length e, h, length-append given (p ∷ [])))
 

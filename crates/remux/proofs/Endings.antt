@@ -65,7 +65,7 @@ all_kept loss meets (s ∷ ss) given (h ∷ hs) [] a = absurd a
 all_kept loss meets (s ∷ ss) given (h ∷ hs) (e ∷ es) a = (
   record {
     accounts = meets s.origin s.slave.fifo (chosen s given) e a.0.0;
-    whole = λ f w. loss s.origin s.slave.fifo (chosen s given) e a.0.0 f w;
+    whole = λ f w l. loss s.origin s.slave.fifo (chosen s given) e a.0.0 f w l;
     sound = a.0.0.sound;
   },
   all_kept loss meets ss given hs es a.1,

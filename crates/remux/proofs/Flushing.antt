@@ -8,7 +8,7 @@ use Rattle.interleaver.proofs.Steps.{lined_stuck}
 use Rattle.remux.specs.Fed.{Takes}
 use Rattle.remux.specs.Flow.{Flow}
 use Rattle.remux.specs.Gave.{Advances, Flushed, FlushedSome}
-use Rattle.remux.proofs.Giving.{append_nil, no_rise, one_rise}
+use Rattle.remux.proofs.Giving.{advances_still, append_nil, no_rise, one_rise}
 use Rattle.remux.proofs.Handing.{stuck_line}
 
 -- some was given, and this is left
@@ -80,8 +80,15 @@ flush_all pending now next k0 k1 d0 d1 f fin h = record {
     no h = cc
 
 -- memory was wanted on the way
-pub flush_some : (pending now : List Packet) (k0 k1 : List Packet → Type 0) (d0 d1 : ℕ → Bool) → Flushing pending now k0 k1 d0 d1 → FlushedSome pending k0 k1 d0 d1
-flush_some pending now k0 k1 d0 d1 f = record { packets = f.packets; rest = now; whole = f.whole; keeps_all = f.keeps_all; dead = f.dead }
+pub flush_some : (pending now : List Packet) (k0 k1 k2 : List Packet → Type 0) (d0 d1 d2 : ℕ → Bool) → Flushing pending now k0 k1 d0 d1
+    → ((given : List Packet) → k1 given → k2 given) → ((u : ℕ) → d2 u ≡ d1 u) → FlushedSome pending k0 k2 d0 d2
+flush_some pending now k0 k1 k2 d0 d1 d2 f keeps dead = record {
+  packets = f.packets;
+  rest = now;
+  whole = f.whole;
+  keeps_all = λ given k. keeps (given ++ f.packets) (f.keeps_all given k);
+  dead = λ given k. advances_still false d0 d1 d2 (length given) (length given + length f.packets) dead (f.dead given k);
+}
 
 -- all that went out and all that is given at the end is the whole order
 pub whole_order : (packets given : List Packet) (v : Pending) → goes v ≡ false → Flow packets given v → interleave v.streams v.delta packets ≡ given ++ v.pending

@@ -109,13 +109,18 @@ gave_all initial now next k0 k1 d0 d1 g h =
 pub given_start : (initial : Pending) (k : List Packet → Type 0) (d : ℕ → Bool) → Given initial initial k k d d
 given_start initial k d = (gave_none initial.streams initial.delta initial.pending k d, refl)
 
+-- the same is known
+pub advances_still : (stopped : Bool) (d0 d1 d2 : ℕ → Bool) (n m : ℕ) → ((u : ℕ) → d2 u ≡ d1 u) → Advances stopped d0 d1 n m → Advances stopped d0 d2 n m
+advances_still stopped d0 d1 d2 n m e a = record { same = λ u h. e u ∙ a.same u h; alive = λ u h k. e u ∙ a.alive u h k; last = λ h. e m ∙ a.last h }
+
 -- memory was wanted on the way
-pub gave_some : (initial now : Pending) (k0 k1 : List Packet → Type 0) (d0 d1 : ℕ → Bool) → Given initial now k0 k1 d0 d1 → GaveSome initial.streams initial.delta initial.pending k0 k1 d0 d1
-gave_some initial now k0 k1 d0 d1 g = record {
+pub gave_some : (initial now : Pending) (k0 k1 k2 : List Packet → Type 0) (d0 d1 d2 : ℕ → Bool) → Given initial now k0 k1 d0 d1
+    → ((given : List Packet) → k1 given → k2 given) → ((u : ℕ) → d2 u ≡ d1 u) → GaveSome initial.streams initial.delta initial.pending k0 k2 d0 d2
+gave_some initial now k0 k1 k2 d0 d1 d2 g keeps dead = record {
   packets = g.0.packets;
   line = λ out.
       let r = release_adds initial.streams initial.delta (out ++ g.0.packets) now.pending in
       (r.0, ap (λ (l : Line). l.out) (g.0.line out) ∙ r.1);
-  keeps_all = g.0.keeps_all;
-  dead = g.0.dead;
+  keeps_all = λ given k. keeps (given ++ g.0.packets) (g.0.keeps_all given k);
+  dead = λ given k. advances_still false d0 d1 d2 (length given) (length given + length g.0.packets) dead (g.0.dead given k);
 }

@@ -16,3 +16,9 @@ pub mod Reporting
 pub mod Telling
 pub mod Endings
 pub mod Running
+pub mod Blocking
+pub mod KeepingRun
+pub mod Directly
+pub mod Inlining
+pub mod Generating
+pub mod MadeTags

@@ -1,9 +1,8 @@
 -- A run from its input's first byte to its outputs' ends.
 use Rattle.std.proofs.Common.{◌≡◌, ℕ, ◌+◌, ◌<◌, ◌≤◌, ◌⊎◌, inl, inr, Bool, true, false, List, [], ◌∷◌, ◌++◌, length, ap, ◌∙◌, sym, refl, subst, arith, length-append, Option, Some, None, Ok, Err}
 use Rattle.std.proofs.lemmas.List.Elements.{All-append}
-use Rattle.std.specs.List.{list_all}
 use Rattle.std.specs.Option.{option_map}
-use Rattle.std.specs.Prelude.{zero, suc, MatchOption, ◌&&◌, ◌^◌, map, IfSome, IsSomeAnd, All, is_some, if◌then◌else◌}
+use Rattle.std.specs.Prelude.{zero, suc, MatchOption, ◌^◌, map, IfSome, IsSomeAnd, All, is_some, if◌then◌else◌}
 use Rattle.rmx_media.specs.declared.packet.Packet.{Packet}
 use Rattle.rmx_media.specs.declared.config.Config.{Config}
 use Rattle.rmx_media.specs.declared.streams.Kind.TheVariants.{Video, Audio}
@@ -26,19 +25,15 @@ use Rattle.flv_demux.specs.Deal.{packets_by}
 use Rattle.flv_demux.proofs.Probing.{probe_stays, probe_of-none}
 use Rattle.interleaver.specs.Interleave.{interleave}
 use Rattle.interleaver.specs.Queues.{Pending, goes}
-use Rattle.options.specs.declared.slave.SlavePlan.{SlavePlan}
 use Rattle.options.specs.declared.words.Plan.{Plan}
-use Rattle.options.specs.Slave.{Slave, view}
+use Rattle.options.specs.Slave.{Slave}
 use Rattle.options.specs.Words.{Planned, Placed, plan_view}
-use Rattle.slave.specs.Accounts.{EndsMeetAccounts}
-use Rattle.slave.specs.Headline.{NoFaultNoLoss}
 use Rattle.slave.specs.declared.job.SlaveEnd.{SlaveEnd}
 use Rattle.slave.specs.End.{end_view}
 use Rattle.tee.specs.declared.fault.TeeFault.{TeeFault}
 use Rattle.tee.specs.declared.fault.TeeFault.TheVariants as tee_fault
 use Rattle.tee.specs.None.{IsNoneFault}
 use Rattle.tee.specs.Choice.{all_streams}
-use Rattle.tee.specs.Ends.{EndsAll}
 use Rattle.tee.specs.Fails.{failed_slave, any_want}
 use Rattle.tee.specs.Seat.{Seat, AreSeats, IsInput, aborts, first_without}
 use Rattle.remux.specs.declared.probe.Found.{Found}
@@ -51,29 +46,26 @@ use Rattle.remux.specs.declared.read.ReadEnd.TheVariants as read_end
 use Rattle.remux.specs.declared.run.Outcome.{Outcome}
 use Rattle.remux.specs.declared.status.Status.{Status}
 use Rattle.remux.specs.declared.status.Status.TheVariants as status
-use Rattle.rmx_media.specs.declared.packet.Format.{Format}
-use Rattle.rmx_media.specs.declared.packet.Format.TheVariants.{Flv, Adts, Mpegts, Segment}
 use Rattle.options.specs.declared.fault.WordFault.{WordFault}
 use Rattle.options.specs.declared.words.Source.{Source}
-use Rattle.options.specs.declared.words.Source.TheVariants.{Named}
-use Rattle.slave.specs.Calls.{IsBuilt}
-use Rattle.remux.specs.Asked.{Asked, asked_with, asked_from, asked_of, clamped, is_built, are_built, not_built}
+use Rattle.options.specs.declared.words.Source.TheVariants.{Named, Generated}
+use Rattle.remux.specs.Asked.{Asked, asked_with, name_of, pictures_of, asked_of, clamped}
 use Rattle.remux.specs.Came.{CameTo, order_of}
 use Rattle.remux.specs.Carried.{Ready, Carried, Carries}
 use Rattle.remux.specs.Demuxed.{is_refused}
-use Rattle.remux.specs.Ending.{status_by}
+use Rattle.remux.specs.Ending.{status_by, status_failed, status_of_read, status_unwanted}
 use Rattle.remux.specs.Finding.{First, ByReached, FoundIn, Finding}
 use Rattle.remux.specs.Fit.{Fit, kind_at}
 use Rattle.remux.specs.Flow.{Flow}
-use Rattle.remux.specs.Kept.{AreKept}
-use Rattle.remux.specs.Outcome.{Taken, Opened, Unopened, IsSettled, EndsEarly, IsNothing, IsWritten, ComesTo, PlanComesTo, RunsPlan, RunsAs, IsReported, with_status, refused_by, unmade_by, states_of}
+use Rattle.remux.specs.Generated.{generated, telling}
+use Rattle.remux.specs.Outcome.{Taken, Concludes, Opened, Unopened, IsSettled, EndsEarly, IsNothing, OfAll, OfEach, IsWrittenBy, ComesToBy, ComesFromBy, MakesAndComesToBy, RunsPlanBy, RunsAsBy, IsReported, with_status, refused_by, unmade_by, states_of}
 use Rattle.remux.specs.Reading.{StopsEarly, IsLeast, IsShort}
 use Rattle.remux.specs.Starting.{new_line}
 use Rattle.remux.specs.Took.{TookView, Took, SawEnd}
 use Rattle.remux.specs.Told.{told}
 use Rattle.remux.specs.States.{states, aborts_of, some_want}
 use Rattle.remux.proofs.Demuxing.{calm_by, told_known}
-use Rattle.remux.proofs.Endings.{states_seen, aborts_seen, any_state, all_kept}
+use Rattle.remux.proofs.Endings.{states_seen, aborts_seen, any_state}
 use Rattle.remux.proofs.Probing.{not_both}
 use Rattle.remux.proofs.Pumping as pumping
 use Rattle.remux.proofs.Reading.{rose_since}
@@ -316,15 +308,15 @@ stopped_dies : (e : ReadEnd) → e ≡ read_end.Stop → (limit delta : ℕ) (ol
 stopped_dies e s limit delta old new bytes given rest done dead c = (subst (λ (z : ReadEnd). CameTo z limit delta old new bytes given rest done dead) s c).dies
 
 -- the outputs were given these packets of the order of the text
-pub wrote : {S : Type 0} (state : S → ShelfState) (p : Planned) (name : List ℕ) (f : Found) (old start mid new : InputState) (ended : Bool) (known : Option Kinds) (has : List ℕ → List Tag → Type 0) (d : DemuxState) (e : ReadEnd) (v : Pending) (shelves : List S) (seats : List Seat) (K : List Packet → Type 0) (D : ℕ → Bool) (o : Outcome S) →
+pub wrote : (E : OfAll) (A : OfEach) {S : Type 0} (state : S → ShelfState) (p : Planned) (name : List ℕ) (f : Found) (old start mid new : InputState) (ended : Bool) (known : Option Kinds) (has : List ℕ → List Tag → Type 0) (d : DemuxState) (e : ReadEnd) (v : Pending) (shelves : List S) (seats : List Seat) (K : List Packet → Type 0) (D : ℕ → Bool) (o : Outcome S) →
     Opened name old start → start.faults ≤ mid.faults → (w : FoundIn f (clamped p.max_bytes) start mid ended known has) → (mid.readable ≡ false → new ≡ mid) → v.streams ≡ stream_count w.streams → v.delta ≡ p.delta_us →
     AreSeats state (streams (reading_of w.bytes).tags) (script (reading_of w.bytes).tags) p.slaves shelves seats o.spare.items → first_without (streams (reading_of w.bytes).tags) p.slaves ≡ None →
-    ((given : List Packet) → K given → (o.upto ≡ length given) × EndsAll seats given D (map (end_view state) o.ends.items) × AreKept seats given (map (end_view state) o.ends.items)) →
+    ((given : List Packet) → K given → (o.upto ≡ length given) × E seats given D (map (end_view state) o.ends.items) × A seats given (map (end_view state) o.ends.items)) →
     o.status ≡ status_by e (failed_slave (aborts seats) (states_of (map (end_view state) o.ends.items))) (any_want (states_of (map (end_view state) o.ends.items))) →
     ((u : ℕ) → D u ≡ true → any_want (states_of (map (end_view state) o.ends.items)) ≡ false → is_some (failed_slave (aborts seats) (states_of (map (end_view state) o.ends.items))) ≡ true) →
     o.tags ≡ d.shown.tags → o.discards ≡ d.shown.discards →
-    Carries e w.streams w.bytes f.left mid new v (λ (b : List ℕ) (done : List Tag). HasDealt b done d) K D → IsWritten state (asked_with name p) old new shelves o
-wrote state p name f old start mid new ended known has d e v shelves seats K D o op le w still ne de seated first kept status_is dies tags_are discards_are h =
+    Carries e w.streams w.bytes f.left mid new v (λ (b : List ℕ) (done : List Tag). HasDealt b done d) K D → IsWrittenBy E A state (asked_with name p) old new shelves o
+wrote E A state p name f old start mid new ended known has d e v shelves seats K D o op le w still ne de seated first kept status_is dies tags_are discards_are h =
     let most_bytes = clamped p.max_bytes in
     let se : (more : List ℕ) → length more ≤ f.left → (mid.readable ≡ false → more ≡ []) → w.streams ≡ kinds (reading_of (w.bytes ++ more)).tags =
     λ more l only. w.finds.kinds_are ∙ sym (ap kinds_of (stays most_bytes f start mid new ended known has w more l only still).probe) in
@@ -421,37 +413,35 @@ kept_of read_end.Stop s b left old new v has K D h = (h.stopped.given, h.stopped
 kept_of read_end.NoMemory s b left old new v has K D h = (h.cut.given, h.cut.kept)
 
 -- The same of outputs that ended, by what the calls of the run said.
-pub wrote_ends : {S : Type 0} (state : S → ShelfState) (q : Plan) (name : List ℕ) (f : Found) (old start mid new : InputState) (ended : Bool) (known : Option Kinds) (has : List ℕ → List Tag → Type 0) (d : DemuxState) (e : ReadEnd) (v : Pending) (shelves : List S) (seats : List Seat) (K : List Packet → Type 0) (D : ℕ → Bool) (rest spare : List S) (ends : List (SlaveEnd S)) (slaves : List SlavePlan) (ends2 ends3 : List (SlaveEnd S)) (failed : Option ℕ) (wanted : Bool) (o : Outcome S) →
+pub wrote_ends : (E : OfAll) (A : OfEach) {S : Type 0} (state : S → ShelfState) (q : Plan) (name : List ℕ) (f : Found) (old start mid new : InputState) (ended : Bool) (known : Option Kinds) (has : List ℕ → List Tag → Type 0) (d : DemuxState) (e : ReadEnd) (v : Pending) (shelves : List S) (seats : List Seat) (K : List Packet → Type 0) (D : ℕ → Bool) (count : ℕ) (rest spare : List S) (ends : List (SlaveEnd S)) (o : Outcome S) →
     Opened name old start → start.faults ≤ mid.faults → (w : FoundIn f (clamped q.max_bytes) start mid ended known has) → (mid.readable ≡ false → new ≡ mid) → v.streams ≡ stream_count w.streams → v.delta ≡ q.delta_us →
-    rest ≡ spare → aborts seats ≡ map (λ (s : Slave). s.abort) (plan_view q).slaves → NoFaultNoLoss → EndsMeetAccounts →
-    ((given : List Packet) → K given → (o.upto ≡ length given) × EndsAll seats given D (map (end_view state) ends) × ((u : ℕ) → D u ≡ true → any_want (states ends) ≡ false → is_some (failed_slave (aborts seats) (states ends)) ≡ true)) →
-    slaves ≡ q.slaves.items → ends2 ≡ ends → ends3 ≡ ends → failed ≡ failed_slave (aborts_of slaves) (states ends2) → wanted ≡ some_want ends3 →
-    o.status ≡ status_by e failed wanted → o.ends.items ≡ ends → o.spare.items ≡ spare → o.tags ≡ d.shown.tags → o.discards ≡ d.shown.discards →
+    rest ≡ spare → aborts seats ≡ map (λ (s : Slave). s.abort) (plan_view q).slaves → ((given : List Packet) → E seats given D (map (end_view state) ends) → A seats given (map (end_view state) ends)) →
+    ((given : List Packet) → K given → (count ≡ length given) × E seats given D (map (end_view state) ends) × ((u : ℕ) → D u ≡ true → any_want (states ends) ≡ false → is_some (failed_slave (aborts seats) (states ends)) ≡ true)) →
+    Concludes q.slaves.items d.shown e count ends spare o →
     AreSeats state (streams (reading_of w.bytes).tags) (script (reading_of w.bytes).tags) (plan_view q).slaves shelves seats rest → first_without (streams (reading_of w.bytes).tags) (plan_view q).slaves ≡ None →
-    Carries e w.streams w.bytes f.left mid new v (λ (b : List ℕ) (done : List Tag). HasDealt b done d) K D → IsWritten state (asked_with name (plan_view q)) old new shelves o
-wrote_ends state q name f old start mid new ended known has d e v shelves seats K D rest spare ends slaves ends2 ends3 failed wanted o op le w still ne de rest_is aborts_are loss meets kept slaves_are ends2_are ends3_are failed_is wanted_is status_is ends_are spare_is tags_are discards_are seated first h =
-    let seen : states ends ≡ states_of (map (end_view state) o.ends.items) = sym (states_seen state ends) ∙ ap (λ (l : List (SlaveEnd _)). states_of (map (end_view state) l)) (sym ends_are) in
-    let said : aborts_of slaves ≡ aborts seats = ap aborts_of slaves_are ∙ sym (aborts_seen q.slaves.items) ∙ sym aborts_are in
-    let who : failed ≡ failed_slave (aborts seats) (states_of (map (end_view state) o.ends.items)) =
-    failed_is ∙ ap (λ (a : List Bool). failed_slave a (states ends2)) said ∙ ap (λ (l : List (SlaveEnd _)). failed_slave (aborts seats) (states l)) ends2_are ∙ ap (failed_slave (aborts seats)) seen in
-    let want : wanted ≡ any_want (states_of (map (end_view state) o.ends.items)) =
-    wanted_is ∙ any_state ends3 ∙ ap (λ (l : List (SlaveEnd _)). any_want (states l)) ends3_are ∙ ap any_want seen in
+    Carries e w.streams w.bytes f.left mid new v (λ (b : List ℕ) (done : List Tag). HasDealt b done d) K D → IsWrittenBy E A state (asked_with name (plan_view q)) old new shelves o
+wrote_ends E A state q name f old start mid new ended known has d e v shelves seats K D count rest spare ends o op le w still ne de rest_is aborts_are meets kept c seated first h =
+    let seen : states ends ≡ states_of (map (end_view state) o.ends.items) = sym (states_seen state ends) ∙ ap (λ (l : List (SlaveEnd _)). states_of (map (end_view state) l)) (sym c.ends_are) in
+    let said : aborts_of q.slaves.items ≡ aborts seats = sym (aborts_seen q.slaves.items) ∙ sym aborts_are in
+    let who : failed_slave (aborts_of q.slaves.items) (states ends) ≡ failed_slave (aborts seats) (states_of (map (end_view state) o.ends.items)) =
+    ap (λ (a : List Bool). failed_slave a (states ends)) said ∙ ap (failed_slave (aborts seats)) seen in
+    let want : some_want ends ≡ any_want (states_of (map (end_view state) o.ends.items)) = any_state ends ∙ ap any_want seen in
     let k0 = kept_of e w.streams w.bytes f.left mid new v (λ (b : List ℕ) (done : List Tag). HasDealt b done d) K D h in
-    wrote state (plan_view q) name f old start mid new ended known has d e v shelves seats K D o op le w still ne de
-    (subst (λ (l : List _). AreSeats state (streams (reading_of w.bytes).tags) (script (reading_of w.bytes).tags) (plan_view q).slaves shelves seats l) (rest_is ∙ sym spare_is) seated)
+    wrote E A state (plan_view q) name f old start mid new ended known has d e v shelves seats K D o op le w still ne de
+    (subst (λ (l : List _). AreSeats state (streams (reading_of w.bytes).tags) (script (reading_of w.bytes).tags) (plan_view q).slaves shelves seats l) (rest_is ∙ sym c.spare_is) seated)
     first
     (λ given k.
     let x = kept given k in (
-      x.0,
-      subst (λ (l : List (SlaveEnd _)). EndsAll seats given D (map (end_view state) l)) (sym ends_are) x.1,
-      subst (λ (l : List (SlaveEnd _)). AreKept seats given (map (end_view state) l)) (sym ends_are) (all_kept loss meets seats given x.1.histories (map (end_view state) ends) x.1.each),
+      c.upto ∙ x.0,
+      subst (λ (l : List (SlaveEnd _)). E seats given D (map (end_view state) l)) (sym c.ends_are) x.1,
+      subst (λ (l : List (SlaveEnd _)). A seats given (map (end_view state) l)) (sym c.ends_are) (meets given x.1),
     ))
-    (status_is ∙ ap (λ (z : Option ℕ). status_by e z wanted) who ∙ ap (status_by e (failed_slave (aborts seats) (states_of (map (end_view state) o.ends.items)))) want)
+    (c.status_is ∙ ap (λ (z : Option ℕ). status_by e z (some_want ends)) who ∙ ap (status_by e (failed_slave (aborts seats) (states_of (map (end_view state) o.ends.items)))) want)
     (λ u du nw. ap is_some (ap (failed_slave (aborts seats)) (sym seen)) ∙ (kept k0.0 k0.1).2 u du (ap any_want seen ∙ nw))
-    tags_are discards_are h
+    c.tags c.discards h
 
 -- a run that made no output
-pub nothing_early : {S : Type 0} (state : S → ShelfState) (s : Status) (asked : Asked) (old new : InputState) (shelves : List S) (o : Outcome S) → IsNothing s shelves o → EndsEarly s asked old new → ComesTo state asked old new shelves o
+pub nothing_early : {E : OfAll} {A : OfEach} {S : Type 0} (state : S → ShelfState) (s : Status) (asked : Asked) (old new : InputState) (shelves : List S) (o : Outcome S) → IsNothing s shelves o → EndsEarly s asked old new → ComesToBy E A state asked old new shelves o
 nothing_early state s asked old new shelves o n e =
     inl (record { status_is = refl; tags = n.tags; upto = n.upto; ends = n.ends; spare = n.spare; discards = n.discards }, subst (λ (x : Status). EndsEarly x asked old new) (sym n.status_is) e)
 
@@ -487,40 +477,24 @@ all_one P x p (suc k) d h = absurd (omega (arith, h))
 pub all_more : {T : Type 0} (P : T → Type 0) (xs ys : List T) (x : T) → ys ≡ xs ++ x ∷ [] → All P xs → P x → All P ys
 all_more P xs ys x e a p = subst (λ (l : List _). All P l) (sym e) (All-append P xs (x ∷ []) a (all_one P x p))
 
--- formats that are built have a muxer
-built_format : (f : Format) → is_built f ≡ true → IsBuilt f
-built_format Flv e = inr (inl refl)
-built_format Adts e = inl refl
-built_format Mpegts e = inr (inr refl)
-built_format Segment e = cc
+-- a plan comes to what its input does
+comes_from : (E : OfAll) (A : OfEach) {S : Type 0} (state : S → ShelfState) (p : Planned) (source : Source) (old new : InputState) (shelves : List S) (o : Outcome S) → p.source ≡ source → ComesFromBy E A state source (asked_with (name_of source) p) old new shelves o → ComesFromBy E A state p.source (asked_of p) old new shelves o
+comes_from E A state p source old new shelves o e c = subst (λ (s : Source). ComesFromBy E A state s (asked_with (name_of s) p) old new shelves o) (sym e) c
 
-both_true : (a b : Bool) → (a && b) ≡ true → (a ≡ true) × (b ≡ true)
-both_true true true e = (refl, refl)
-both_true true false e = cc
-both_true false b e = cc
+pub comes_named : (E : OfAll) (A : OfEach) {S : Type 0} (state : S → ShelfState) (p : Planned) (name : List ℕ) (old new : InputState) (shelves : List S) (o : Outcome S) → p.source ≡ Named name → ComesToBy E A state (asked_with name p) old new shelves o → ComesFromBy E A state p.source (asked_of p) old new shelves o
+comes_named E A state p name old new shelves o e c = comes_from E A state p (Named name) old new shelves o e c
 
-pub all_built : (slaves : List Slave) → are_built slaves ≡ true → All (λ (s : Slave). IsBuilt s.format) slaves
-all_built [] e k d lt = absurd (omega (arith, lt))
-all_built (s ∷ ss) e zero d lt = built_format s.format (both_true (is_built s.format) (are_built ss) e).0
-all_built (s ∷ ss) e (suc k) d lt = all_built ss (both_true (is_built s.format) (are_built ss) e).1 k d (omega (arith, lt))
+pub comes_generated : (E : OfAll) (A : OfEach) {S : Type 0} (state : S → ShelfState) (p : Planned) (count : ℕ) (now : InputState) (shelves : List S) (o : Outcome S) → p.source ≡ Generated count → ((now : InputState) → MakesAndComesToBy E A state (generated (pictures_of count)) (asked_with [] p) now now shelves o) → ComesFromBy E A state p.source (asked_of p) now now shelves o
+comes_generated E A state p count now shelves o e c = comes_from E A state p (Generated count) now now shelves o e (c now)
 
--- what is asked of the plan of outputs is asked of them as they are seen
-pub built_seen : (slaves : List SlavePlan) → list_all (λ (s : SlavePlan). is_built s.format) slaves ≡ are_built (map view slaves)
-built_seen [] = refl
-built_seen (s ∷ ss) = ap (λ (b : Bool). is_built s.format && b) (built_seen ss)
-
--- the plan asks for this, or for what isn't built
-pub asked_built : (p : Planned) (name : List ℕ) → p.source ≡ Named name → are_built p.slaves ≡ true → asked_of p ≡ Some (asked_with name p)
-asked_built p name e b = ap (λ (c : Bool). if c then asked_from p.source p else None) b ∙ ap (λ (s : Source). asked_from s p) e
-
-pub asked_unbuilt : (p : Planned) → are_built p.slaves ≡ false → asked_of p ≡ None
-asked_unbuilt p b = ap (λ (c : Bool). if c then asked_from p.source p else None) b
-
-pub comes_named : {S : Type 0} (state : S → ShelfState) (p : Planned) (name : List ℕ) (old new : InputState) (shelves : List S) (o : Outcome S) → asked_of p ≡ Some (asked_with name p) → ComesTo state (asked_with name p) old new shelves o → PlanComesTo state (asked_of p) old new shelves o
-comes_named state p name old new shelves o e c = subst (λ (a : Option Asked). PlanComesTo state a old new shelves o) (sym e) c
-
-pub comes_unbuilt : {S : Type 0} (state : S → ShelfState) (p : Planned) (s : Status) (now : InputState) (shelves : List S) (o : Outcome S) → asked_of p ≡ None → s ≡ status.Words not_built → IsNothing s shelves o → PlanComesTo state (asked_of p) now now shelves o
-comes_unbuilt state p s now shelves o e se n = subst (λ (a : Option Asked). PlanComesTo state a now now shelves o) (sym e) (subst (λ (z : Status). IsNothing z shelves o) se n, refl)
+-- a run over a text that is made
+pub made : (E : OfAll) (A : OfEach) {S : Type 0} (state : S → ShelfState) (text : List ℕ) (asked : Asked) (start after now : InputState) (shelves : List S) (o : Outcome S) → start ≡ telling text text false false → (start.sound_at asked.source ≡ true → after.faults ≡ start.faults) → ComesToBy E A state asked start after shelves o → MakesAndComesToBy E A state text asked now now shelves o
+made E A state text asked start after now shelves o e sound c = record {
+  untouched = refl;
+  after = after;
+  faultless = sound (ap (λ (i : InputState). i.sound_at asked.source) e) ∙ ap (λ (i : InputState). i.faults) e;
+  comes = subst (λ (i : InputState). ComesToBy E A state asked i after shelves o) e c;
+}
 
 -- the report leaves all but the status
 reported_nothing : {S : Type 0} (s : Status) (shelves : List S) (o p : Outcome S) → (s ≡ status.Done → ⊥) → IsNothing s shelves o → with_status o.status p ≡ o → IsReported o.status p.status → IsNothing s shelves p
@@ -540,13 +514,49 @@ reported_nothing s shelves o p calm n same r = record {
 words_done : (f : WordFault) → status.Words f ≡ status.Done → ⊥
 words_done f e = cc
 
--- a run of words that have a plan
-pub runs_planned : {S : Type 0} (state : S → ShelfState) (a : Option Asked) (old new : InputState) (shelves : List S) (o p : Outcome S) → PlanComesTo state a old new shelves o → with_status o.status p ≡ o → IsReported o.status p.status → RunsPlan state a old new shelves p
-runs_planned state (Some asked) old new shelves o p c same r = (o.status, r, subst (λ (x : Outcome _). ComesTo state asked old new shelves x) (sym same) c)
-runs_planned state None old new shelves o p c same r = (reported_nothing (status.Words not_built) shelves o p (words_done not_built) c.0 same r, c.1)
+-- no status before the report is that the report failed
+read_calm : (e : ReadEnd) → status_of_read e ≡ status.ReportFault → ⊥
+read_calm read_end.Whole e = cc
+read_calm read_end.Cut e = cc
+read_calm read_end.Limit e = cc
+read_calm read_end.InputFault e = cc
+read_calm read_end.Stop e = cc
+read_calm read_end.NoMemory e = cc
 
-pub runs_ok : {S : Type 0} (state : S → ShelfState) (words : Placed Planned) (q : Planned) (old new : InputState) (shelves : List S) (o p : Outcome S) → words ≡ Ok q → PlanComesTo state (asked_of q) old new shelves o → with_status o.status p ≡ o → IsReported o.status p.status → RunsAs state words old new shelves p
-runs_ok state words q old new shelves o p e c same r = subst (λ (w : Placed Planned). RunsAs state w old new shelves p) (sym e) (inl (runs_planned state (asked_of q) old new shelves o p c same r))
+failed_calm : (f : Option ℕ) (s : Status) → (s ≡ status.ReportFault → ⊥) → status_failed f s ≡ status.ReportFault → ⊥
+failed_calm None s calm e = calm e
+failed_calm (Some k) s calm e = cc
+
+unwanted_calm : (e : ReadEnd) (f : Option ℕ) → status_unwanted e f ≡ status.ReportFault → ⊥
+unwanted_calm read_end.Whole f e = failed_calm f (status_of_read read_end.Whole) (read_calm read_end.Whole) e
+unwanted_calm read_end.Cut f e = failed_calm f (status_of_read read_end.Cut) (read_calm read_end.Cut) e
+unwanted_calm read_end.Limit f e = failed_calm f (status_of_read read_end.Limit) (read_calm read_end.Limit) e
+unwanted_calm read_end.InputFault f e = failed_calm f (status_of_read read_end.InputFault) (read_calm read_end.InputFault) e
+unwanted_calm read_end.Stop f e = failed_calm f (status_of_read read_end.Stop) (read_calm read_end.Stop) e
+unwanted_calm read_end.NoMemory f e = cc
+
+status_calm : (e : ReadEnd) (f : Option ℕ) (wanted : Bool) → status_by e f wanted ≡ status.ReportFault → ⊥
+status_calm e f true same = cc
+status_calm e f false same = unwanted_calm e f same
+
+comes_calm : (E : OfAll) (A : OfEach) {S : Type 0} (state : S → ShelfState) (asked : Asked) (old new : InputState) (shelves : List S) (o : Outcome S) → ComesToBy E A state asked old new shelves o → o.status ≡ status.ReportFault → ⊥
+comes_calm E A state asked old new shelves o (inl c) e = subst (λ (s : Status). EndsEarly s asked old new) e c.1
+comes_calm E A state asked old new shelves o (inr w) e = status_calm w.reading _ _ (sym w.status_is ∙ e)
+
+pub from_calm : (E : OfAll) (A : OfEach) {S : Type 0} (state : S → ShelfState) (source : Source) (asked : Asked) (old new : InputState) (shelves : List S) (o : Outcome S) → ComesFromBy E A state source asked old new shelves o → o.status ≡ status.ReportFault → ⊥
+from_calm E A state (Named name) asked old new shelves o c e = comes_calm E A state asked old new shelves o c e
+from_calm E A state (Generated count) asked old new shelves o c e = comes_calm E A state asked (telling (generated (pictures_of count)) (generated (pictures_of count)) false false) c.after shelves o c.comes e
+
+-- the report leaves what comes from the input
+reported_from : (E : OfAll) (A : OfEach) {S : Type 0} (state : S → ShelfState) (source : Source) (asked : Asked) (old new : InputState) (shelves : List S) (o p : Outcome S) → ComesFromBy E A state source asked old new shelves o → o ≡ p → ComesFromBy E A state source asked old new shelves p
+reported_from E A state source asked old new shelves o p c e = subst (λ (x : Outcome _). ComesFromBy E A state source asked old new shelves x) e c
+
+-- a run of words that have a plan
+pub runs_planned : (E : OfAll) (A : OfEach) {S : Type 0} (state : S → ShelfState) (source : Source) (asked : Asked) (old new : InputState) (shelves : List S) (o p : Outcome S) → ComesFromBy E A state source asked old new shelves o → with_status o.status p ≡ o → IsReported o.status p.status → RunsPlanBy E A state source asked old new shelves p
+runs_planned E A state source asked old new shelves o p c same r = (o.status, r, reported_from E A state source asked old new shelves o (with_status o.status p) c (sym same))
+
+pub runs_ok : (E : OfAll) (A : OfEach) {S : Type 0} (state : S → ShelfState) (words : Placed Planned) (q : Planned) (old new : InputState) (shelves : List S) (o p : Outcome S) → words ≡ Ok q → ComesFromBy E A state q.source (asked_of q) old new shelves o → with_status o.status p ≡ o → IsReported o.status p.status → RunsAsBy E A state words old new shelves p
+runs_ok E A state words q old new shelves o p e c same r = subst (λ (w : Placed Planned). RunsAsBy E A state w old new shelves p) (sym e) (inl (runs_planned E A state q.source (asked_of q) old new shelves o p c same r))
 
 -- which outputs abort is said by their plans
 pub aborts_by : {S : Type 0} (state : S → ShelfState) (infos : List StreamInfo) (script : Option (List ℕ)) (slaves : List Slave) (shelves : List S) (seats : List Seat) (rest : List S) → AreSeats state infos script slaves shelves seats rest → aborts seats ≡ map (λ (s : Slave). s.abort) slaves
@@ -596,7 +606,3 @@ found_within f m n old new ended known has e w = subst (λ (l : ℕ). FoundIn f 
 
 pub finding_within : (u : Unfound) (m n : ℕ) (old new : InputState) (ended : Bool) (known : Option Kinds) (has : List ℕ → List Tag → Type 0) → m ≡ n → Finding (Err u) m old new ended known has → Finding (Err u) n old new ended known has
 finding_within u m n old new ended known has e w = subst (λ (l : ℕ). Finding (Err u) l old new ended known has) e w
-
--- outputs are built where the test said so
-pub built_said : (q slaves : List SlavePlan) (r b : Bool) → slaves ≡ q → r ≡ list_all (λ (s : SlavePlan). is_built s.format) slaves → r ≡ b → are_built (map view q) ≡ b
-built_said q slaves r b e h k = sym (built_seen q) ∙ ap (list_all (λ (s : SlavePlan). is_built s.format)) (sym e) ∙ sym h ∙ k

@@ -1,10 +1,5 @@
 -- What the words of a command ask for.
-use Rattle.std.specs.Prelude.{ℕ, ◌^◌, min, max, Bool, true, false, if◌then◌else◌, List, Option, Some, None}
-use Rattle.std.specs.List.{list_all}
-use Rattle.rmx_media.specs.declared.packet.Format.{Format}
-use Rattle.rmx_media.specs.declared.packet.Format.TheVariants.{Flv, Adts, Mpegts, Segment}
-use Rattle.options.specs.declared.fault.WordKind.TheVariants as kind
-use Rattle.options.specs.declared.fault.WordFault.{WordFault}
+use Rattle.std.specs.Prelude.{ℕ, ◌^◌, min, max, List, []}
 use Rattle.options.specs.declared.words.Source.{Source}
 use Rattle.options.specs.declared.words.Source.TheVariants.{Named, Generated}
 use Rattle.options.specs.Slave.{Slave}
@@ -19,15 +14,6 @@ pub record Asked : Type 0 where
   pub max_bytes : ℕ
   pub slaves : List Slave
 
-abbrev pub is_built : Format → Bool
-is_built Flv = true
-is_built Adts = true
-is_built Mpegts = true
-is_built Segment = false
-
-abbrev pub are_built : List Slave → Bool
-are_built slaves = list_all (λ s. is_built s.format) slaves
-
 -- a count of bytes within the limits
 abbrev pub clamped : ℕ → ℕ
 clamped n = max 9 (min n (2 ^ 40))
@@ -36,14 +22,15 @@ clamped n = max 9 (min n (2 ^ 40))
 abbrev pub asked_with : List ℕ → Planned → Asked
 asked_with name p = record { source = name; delta_us = p.delta_us; max_bytes = clamped p.max_bytes; slaves = p.slaves }
 
-abbrev pub asked_from : Source → Planned → Option Asked
-asked_from (Named name) p = Some (asked_with name p)
-asked_from (Generated count) p = None
+-- the name of the input; one that is made needs none
+abbrev pub name_of : Source → List ℕ
+name_of (Named name) = name
+name_of (Generated count) = []
 
--- what a plan asks for, where all that it needs stands
-abbrev pub asked_of : Planned → Option Asked
-asked_of p = if are_built p.slaves then asked_from p.source p else None
+-- how many pictures are made; the words allow no more
+abbrev pub pictures_of : ℕ → ℕ
+pictures_of count = min count 20000
 
--- a plan that needs what doesn't stand yet
-abbrev pub not_built : WordFault
-not_built = record { kind = kind.NotBuilt; word = 0 }
+-- what a plan asks for
+abbrev pub asked_of : Planned → Asked
+asked_of p = asked_with (name_of p.source) p

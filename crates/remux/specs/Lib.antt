@@ -1,3 +1,4 @@
+pub mod Lineup
 pub mod Fit
 pub mod Told
 pub mod Gave
@@ -12,10 +13,15 @@ pub mod Under
 pub mod Finding
 pub mod Carried
 pub mod Starting
+pub mod Generated
+pub mod Making
 pub mod Asked
 pub mod Came
 pub mod Ending
 pub mod Kept
+pub mod KeptRun
+pub mod MadeRun
+pub mod Threads
 pub mod States
 pub mod Report
 pub mod Outcome

@@ -1,5 +1,5 @@
 -- What a run comes to.
-use Rattle.std.specs.Prelude.{◌≡◌, ℕ, ◌<◌, ◌≤◌, ◌⊎◌, min, List, [], ◌++◌, length, map, Bool, true, false, Option, Some, None, is_some, IfSome, IsSomeAnd, Ok, Err}
+use Rattle.std.specs.Prelude.{◌≡◌, ℕ, ◌<◌, ◌≤◌, ◌⊎◌, min, List, [], ◌++◌, length, map, Bool, true, false, Some, None, is_some, IfSome, IsSomeAnd, Ok, Err}
 use Rattle.rmx_media.specs.declared.packet.Packet.{Packet}
 use Rattle.rmx_media.specs.declared.streams.StreamInfo.{StreamInfo}
 use Rattle.rmx_edge.specs.Count.{most, Rose}
@@ -11,11 +11,16 @@ use Rattle.flv_tags.specs.declared.tag.TagFault.TheVariants as tag_fault
 use Rattle.flv_tags.specs.Tags.{reading_of}
 use Rattle.flv_demux.specs.Probe.{probe_of, is_decided, streams, script, kinds}
 use Rattle.flv_demux.specs.Deal.{desk_of, no_discards}
+use Rattle.flv_demux.specs.declared.deal.Shown.{Shown}
 use Rattle.fifo_core.specs.declared.types.EndState.{EndState}
 use Rattle.options.specs.declared.fault.WordKind.{WordKind}
 use Rattle.options.specs.declared.fault.WordKind.TheVariants as kind
 use Rattle.options.specs.declared.fault.WordFault.{WordFault}
+use Rattle.options.specs.declared.slave.SlavePlan.{SlavePlan}
+use Rattle.options.specs.declared.words.Source.{Source}
+use Rattle.options.specs.declared.words.Source.TheVariants.{Named, Generated}
 use Rattle.options.specs.Words.{Planned, Placed}
+use Rattle.slave.specs.declared.job.SlaveEnd.{SlaveEnd}
 use Rattle.slave.specs.End.{EndView, end_view}
 use Rattle.tee.specs.Seat.{Seat, AreSeats, aborts, first_without}
 use Rattle.tee.specs.Fails.{failed_slave, any_want}
@@ -27,11 +32,13 @@ use Rattle.tee.specs.declared.tee.Tee.{Tee}
 use Rattle.rmx_edge.specs.declared.shelf.Shelf.{Ghosts}
 use Rattle.interleaver.specs.Queues.{Pending}
 use Rattle.remux.specs.Starting.{new_line}
-use Rattle.remux.specs.Asked.{Asked, asked_of, not_built}
+use Rattle.remux.specs.Asked.{Asked, asked_of, pictures_of}
+use Rattle.remux.specs.Generated.{generated, telling}
 use Rattle.remux.specs.Came.{CameTo, order_of}
 use Rattle.remux.specs.Demuxed.{is_refused}
 use Rattle.remux.specs.Ending.{status_by}
 use Rattle.remux.specs.Kept.{AreKept}
+use Rattle.remux.specs.States.{states, aborts_of, some_want}
 use Rattle.remux.specs.Took.{SawEnd}
 use Rattle.remux.specs.declared.probe.Unfound.{Unfound}
 use Rattle.remux.specs.declared.probe.Unfound.TheVariants as unfound
@@ -115,8 +122,17 @@ pub record IsNothing {S : Type 0} (s : Status) (shelves : List S) (o : Outcome S
 abbrev pub states_of : List EndView → List EndState
 states_of ends = map (λ (e : EndView). e.state) ends
 
--- the outcome of a run whose outputs were made
-pub record IsWritten {S : Type 0} (state : S → ShelfState) (asked : Asked) (old new : InputState) (shelves : List S) (o : Outcome S) : Type 0 where
+-- what is said of outputs that ended together: by what they were given, and after how many packets one that aborts, or every
+-- one, was known to be dead
+abbrev pub OfAll : Type 1
+OfAll = List Seat → List Packet → (ℕ → Bool) → List EndView → Type 0
+
+-- what is promised of each
+abbrev pub OfEach : Type 1
+OfEach = List Seat → List Packet → List EndView → Type 0
+
+-- the outcome of a run whose outputs were made, of whose ends this holds
+pub record IsWrittenBy (Ends : OfAll) (Kept : OfEach) {S : Type 0} (state : S → ShelfState) (asked : Asked) (old new : InputState) (shelves : List S) (o : Outcome S) : Type 0 where
   -- what was taken of the input; it is settled which streams there are, and each output takes one
   pub bytes : List ℕ
   pub taken : Taken asked.source asked.max_bytes bytes old new
@@ -136,8 +152,8 @@ pub record IsWritten {S : Type 0} (state : S → ShelfState) (asked : Asked) (ol
   pub dead : ℕ → Bool
   pub alive : (u : ℕ) → 0 < u → u < length given → dead u ≡ false
   -- how the outputs ended, and what is promised of each
-  pub ends : EndsAll seats given dead (map (end_view state) o.ends.items)
-  pub kept : AreKept seats given (map (end_view state) o.ends.items)
+  pub ends : Ends seats given dead (map (end_view state) o.ends.items)
+  pub kept : Kept seats given (map (end_view state) o.ends.items)
   -- how the reading ended, and the tags that were dealt with
   pub reading : ReadEnd
   pub done : List Tag
@@ -150,8 +166,18 @@ pub record IsWritten {S : Type 0} (state : S → ShelfState) (asked : Asked) (ol
       → is_some (failed_slave (aborts seats) (states_of (map (end_view state) o.ends.items))) ≡ true
 
 -- what is asked comes to this
-abbrev pub ComesTo : {S : Type 0} → (S → ShelfState) → Asked → InputState → InputState → List S → Outcome S → Type 0
-ComesTo state asked old new shelves o = (IsNothing o.status shelves o × EndsEarly o.status asked old new) ⊎ IsWritten state asked old new shelves o
+abbrev pub ComesToBy : OfAll → OfEach → {S : Type 0} → (S → ShelfState) → Asked → InputState → InputState → List S → Outcome S → Type 0
+ComesToBy Ends Kept state asked old new shelves o =
+    (IsNothing o.status shelves o × EndsEarly o.status asked old new) ⊎ IsWrittenBy Ends Kept state asked old new shelves o
+
+-- the outcome of a run whose reading and whose outputs ended so, and which handed over so many packets
+pub record Concludes {S : Type 0} (slaves : List SlavePlan) (shown : Shown) (reading : ReadEnd) (given : ℕ) (ends : List (SlaveEnd S)) (spare : List S) (o : Outcome S) : Type 0 where
+  pub status_is : o.status ≡ status_by reading (failed_slave (aborts_of slaves) (states ends)) (some_want ends)
+  pub tags : o.tags ≡ shown.tags
+  pub upto : o.upto ≡ given
+  pub ends_are : o.ends.items ≡ ends
+  pub spare_is : o.spare.items ≡ spare
+  pub discards : o.discards ≡ shown.discards
 
 -- the outcome of another status
 abbrev pub with_status : {S : Type 0} → Status → Outcome S → Outcome S
@@ -161,15 +187,22 @@ with_status s o = record { status = s; tags = o.tags; upto = o.upto; ends = o.en
 abbrev pub IsReported : Status → Status → Type 0
 IsReported s t = (t ≡ s) ⊎ ((s ≡ status.Done) × (t ≡ status.ReportFault))
 
--- what a plan comes to, up to the report
-abbrev pub PlanComesTo : {S : Type 0} → (S → ShelfState) → Option Asked → InputState → InputState → List S → Outcome S → Type 0
-PlanComesTo state (Some asked) old new shelves o = ComesTo state asked old new shelves o
-PlanComesTo state None old new shelves o = IsNothing (status.Words not_built) shelves o × (new ≡ old)
+-- what is asked comes to this over a text that is made while it is read: it is there under every name and never fails, and
+-- the inputs stay as they were
+pub record MakesAndComesToBy (Ends : OfAll) (Kept : OfEach) {S : Type 0} (state : S → ShelfState) (text : List ℕ) (asked : Asked) (old new : InputState) (shelves : List S) (o : Outcome S) : Type 0 where
+  pub untouched : new ≡ old
+  pub after : InputState
+  pub faultless : after.faults ≡ 0
+  pub comes : ComesToBy Ends Kept state asked (telling text text false false) after shelves o
+
+-- what is asked of the input of a plan comes to this
+abbrev pub ComesFromBy : OfAll → OfEach → {S : Type 0} → (S → ShelfState) → Source → Asked → InputState → InputState → List S → Outcome S → Type 0
+ComesFromBy Ends Kept state (Named name) asked old new shelves o = ComesToBy Ends Kept state asked old new shelves o
+ComesFromBy Ends Kept state (Generated count) asked old new shelves o = MakesAndComesToBy Ends Kept state (generated (pictures_of count)) asked old new shelves o
 
 -- what a plan comes to: the status that the run has, but for a report that could not be written
-abbrev pub RunsPlan : {S : Type 0} → (S → ShelfState) → Option Asked → InputState → InputState → List S → Outcome S → Type 0
-RunsPlan state (Some asked) old new shelves o = (s : Status) × IsReported s o.status × ComesTo state asked old new shelves (with_status s o)
-RunsPlan state None old new shelves o = IsNothing (status.Words not_built) shelves o × (new ≡ old)
+abbrev pub RunsPlanBy : OfAll → OfEach → {S : Type 0} → (S → ShelfState) → Source → Asked → InputState → InputState → List S → Outcome S → Type 0
+RunsPlanBy Ends Kept state source asked old new shelves o = (s : Status) × IsReported s o.status × ComesFromBy Ends Kept state source asked old new shelves (with_status s o)
 
 abbrev pub fault_at : WordKind × ℕ → Status
 fault_at f = status.Words record { kind = f.0; word = min f.1 4294967295 }
@@ -187,14 +220,32 @@ abbrev pub WantsEarly : {S : Type 0} → InputState → InputState → List S �
 WantsEarly old new shelves o = IsNothing status.NoMemory shelves o × (new ≡ old)
 
 -- what words come to
+abbrev pub RunsAsBy : OfAll → OfEach → {S : Type 0} → (S → ShelfState) → Placed Planned → InputState → InputState → List S → Outcome S → Type 0
+RunsAsBy Ends Kept state (Ok p) old new shelves o = RunsPlanBy Ends Kept state p.source (asked_of p) old new shelves o ⊎ WantsEarly old new shelves o
+RunsAsBy Ends Kept state (Err f) old new shelves o = (IsNothing (fault_at f) shelves o × (new ≡ old)) ⊎ WantsEarly old new shelves o
+
+-- the same of outputs that the reader writes itself
+abbrev pub IsWritten : {S : Type 0} → (S → ShelfState) → Asked → InputState → InputState → List S → Outcome S → Type 0
+IsWritten = IsWrittenBy EndsAll AreKept
+
+abbrev pub ComesTo : {S : Type 0} → (S → ShelfState) → Asked → InputState → InputState → List S → Outcome S → Type 0
+ComesTo = ComesToBy EndsAll AreKept
+
+abbrev pub MakesAndComesTo : {S : Type 0} → (S → ShelfState) → List ℕ → Asked → InputState → InputState → List S → Outcome S → Type 0
+MakesAndComesTo = MakesAndComesToBy EndsAll AreKept
+
+abbrev pub ComesFrom : {S : Type 0} → (S → ShelfState) → Source → Asked → InputState → InputState → List S → Outcome S → Type 0
+ComesFrom = ComesFromBy EndsAll AreKept
+
+abbrev pub RunsPlan : {S : Type 0} → (S → ShelfState) → Source → Asked → InputState → InputState → List S → Outcome S → Type 0
+RunsPlan = RunsPlanBy EndsAll AreKept
+
 abbrev pub RunsAs : {S : Type 0} → (S → ShelfState) → Placed Planned → InputState → InputState → List S → Outcome S → Type 0
-RunsAs state (Ok p) old new shelves o = RunsPlan state (asked_of p) old new shelves o ⊎ WantsEarly old new shelves o
-RunsAs state (Err f) old new shelves o = (IsNothing (fault_at f) shelves o × (new ≡ old)) ⊎ WantsEarly old new shelves o
+RunsAs = RunsAsBy EndsAll AreKept
 
 -- an input that is sound doesn't fail
-abbrev pub ReadsAsked : Option Asked → InputState → InputState → Type 0
-ReadsAsked (Some asked) old new = old.sound_at asked.source ≡ true → new.faults ≡ old.faults
-ReadsAsked None old new = Unit {0}
+abbrev pub ReadsAsked : Asked → InputState → InputState → Type 0
+ReadsAsked asked old new = old.sound_at asked.source ≡ true → new.faults ≡ old.faults
 
 abbrev pub ReadsSound : Placed Planned → InputState → InputState → Type 0
 ReadsSound (Ok p) old new = ReadsAsked (asked_of p) old new

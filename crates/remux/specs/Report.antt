@@ -47,7 +47,6 @@ number_of_kind kind.BadTemplate = 12
 number_of_kind kind.BadFilter = 13
 number_of_kind kind.NameTooLong = 14
 number_of_kind kind.NoMemory = 15
-number_of_kind kind.NotBuilt = 16
 
 -- a number behind its name
 abbrev pub field : List ℕ → ℕ → List ℕ

@@ -1,6 +1,6 @@
 // From the first packet of an input to its last.
 ghost use Rattle.std.specs.Prelude.{◌≡◌, ◌+◌, ◌<◌, ◌≤◌, ◌^◌, length, List, ℕ, false};
-ghost use Rattle.tee.specs.Seat.{Seat};
+ghost use Rattle.remux.specs.Lineup.{Lineup};
 ghost use Rattle.flv_demux.specs.declared.deal.Kinds.{Kinds};
 ghost use Rattle.remux.specs.Carried.{Carries, Ready, last_of_all, limited};
 ghost use Rattle.remux.specs.Finding.{ByReached, LateProbe};
@@ -28,8 +28,8 @@ pub fn carry<I: Inputs, D: Demux, T: Outputs>(
 ) -> ReadEnd
     requires room { 0 < length buf.old }
     requires small { length buf.old ≤ 65536 }
-    requires ready { (s : Kinds) × (b : List ℕ) × (start : List Seat) × Ready s b found.first found.reached found.left (I.state inputs.old) (D.ended demux.old) (D.known demux.old) (D.has demux.old) line.old (T.keeps outputs.old start) (T.takes outputs.old) × (length b + found.left < 2 ^ 61) }
-    ensures carries { (s : Kinds) (b : List ℕ) (start : List Seat) → Ready s b found.first found.reached found.left (I.state inputs.old) (D.ended demux.old) (D.known demux.old) (D.has demux.old) line.old (T.keeps outputs.old start) (T.takes outputs.old)
+    requires ready { (s : Kinds) × (b : List ℕ) × (start : Lineup) × Ready s b found.first found.reached found.left (I.state inputs.old) (D.ended demux.old) (D.known demux.old) (D.has demux.old) line.old (T.keeps outputs.old start) (T.takes outputs.old) × (length b + found.left < 2 ^ 61) }
+    ensures carries { (s : Kinds) (b : List ℕ) (start : Lineup) → Ready s b found.first found.reached found.left (I.state inputs.old) (D.ended demux.old) (D.known demux.old) (D.has demux.old) line.old (T.keeps outputs.old start) (T.takes outputs.old)
         → Carries result s b found.left (I.state inputs.old) (I.state inputs.new) line.new (D.has demux.new) (T.keeps outputs.new start) (T.dead_at outputs.new) }
     ensures sound { StaysSound (I.state inputs.old) (I.state inputs.new) }
     ensures still { (I.state inputs.old).readable ≡ false → I.state inputs.new ≡ I.state inputs.old }
@@ -63,8 +63,8 @@ fn carry_on<I: Inputs, D: Demux, T: Outputs>(
 ) -> ReadEnd
     requires room { 0 < length buf.old }
     requires small { length buf.old ≤ 65536 }
-    requires flows { (s : Kinds) × (b : List ℕ) × (start : List Seat) × Flowing s b (D.known demux.old) (D.has demux.old) line.old (T.keeps outputs.old start) (T.dead_at outputs.old) (T.takes outputs.old) × ByReached reached b (D.ended demux.old) left (I.state inputs.old) × LateProbe b × (length b + left < 2 ^ 61) }
-    ensures carries { (s : Kinds) (b : List ℕ) (start : List Seat) → Flowing s b (D.known demux.old) (D.has demux.old) line.old (T.keeps outputs.old start) (T.dead_at outputs.old) (T.takes outputs.old)
+    requires flows { (s : Kinds) × (b : List ℕ) × (start : Lineup) × Flowing s b (D.known demux.old) (D.has demux.old) line.old (T.keeps outputs.old start) (T.dead_at outputs.old) (T.takes outputs.old) × ByReached reached b (D.ended demux.old) left (I.state inputs.old) × LateProbe b × (length b + left < 2 ^ 61) }
+    ensures carries { (s : Kinds) (b : List ℕ) (start : Lineup) → Flowing s b (D.known demux.old) (D.has demux.old) line.old (T.keeps outputs.old start) (T.dead_at outputs.old) (T.takes outputs.old)
         → LateProbe b → ByReached reached b (D.ended demux.old) left (I.state inputs.old)
         → Carries result s b left (I.state inputs.old) (I.state inputs.new) line.new (D.has demux.new) (T.keeps outputs.new start) (T.dead_at outputs.new) }
     ensures sound { StaysSound (I.state inputs.old) (I.state inputs.new) }
@@ -105,8 +105,8 @@ fn read_rest<I: Inputs, D: Demux, T: Outputs>(
 ) -> ReadEnd
     requires room { 0 < length buf.old }
     requires small { length buf.old ≤ 65536 }
-    requires flows { (s : Kinds) × (b : List ℕ) × (start : List Seat) × Flowing s b (D.known demux.old) (D.has demux.old) line.old (T.keeps outputs.old start) (T.dead_at outputs.old) (T.takes outputs.old) × ByReached reached b (D.ended demux.old) left (I.state inputs.old) × (length b + left < 2 ^ 61) }
-    ensures ends { (s : Kinds) (b : List ℕ) (start : List Seat) → Flowing s b (D.known demux.old) (D.has demux.old) line.old (T.keeps outputs.old start) (T.dead_at outputs.old) (T.takes outputs.old)
+    requires flows { (s : Kinds) × (b : List ℕ) × (start : Lineup) × Flowing s b (D.known demux.old) (D.has demux.old) line.old (T.keeps outputs.old start) (T.dead_at outputs.old) (T.takes outputs.old) × ByReached reached b (D.ended demux.old) left (I.state inputs.old) × (length b + left < 2 ^ 61) }
+    ensures ends { (s : Kinds) (b : List ℕ) (start : Lineup) → Flowing s b (D.known demux.old) (D.has demux.old) line.old (T.keeps outputs.old start) (T.dead_at outputs.old) (T.takes outputs.old)
         → LateProbe b → ByReached reached b (D.ended demux.old) left (I.state inputs.old)
         → Ends result s b left (I.state inputs.old) (I.state inputs.new) (D.known demux.new) (D.has demux.new) line.new (T.keeps outputs.new start) (T.dead_at outputs.new) (T.takes outputs.new) }
     ensures sound { StaysSound (I.state inputs.old) (I.state inputs.new) }

@@ -53,16 +53,53 @@ fn explain_end<R: Eprint, S>(rt: &R, slave: usize, end: &SlaveEnd<S>) -> io::Res
         EndState::Failed => eprintln!(rt; "remux: output {slave} failed")?,
         EndState::NoMemory => eprintln!(rt; "remux: output {slave} wanted memory")?,
     }
+    let mut missing = None;
     for run in end.fates.as_slice() {
-        explain_run(rt, slave, run)?;
+        missing = join_missing(rt, slave, missing, run)?;
     }
-    Ok(())
+    match missing {
+        Some(last) => tell_missing(rt, slave, last),
+        None => Ok(()),
+    }
 }
 
-// Says which packets an output lacks, and why.
-fn explain_run<R: Eprint>(rt: &R, slave: usize, run: &Run) -> io::Result<()> {
+// Packets one after another that an output lacks for one cause.
+#[derive(Clone, Copy)]
+struct Missing {
+    first: u64,
+    last: u64,
+    cause: &'static str,
+}
+
+// What is missing with one run more. Where that doesn't go on, what was missing before is told.
+fn join_missing<R: Eprint>(
+    rt: &R,
+    slave: usize,
+    before: Option<Missing>,
+    run: &Run,
+) -> io::Result<Option<Missing>> {
+    let here = missing_in(run);
+    match (before, here) {
+        (Some(old), Some(new))
+            if old.cause == new.cause && old.last.saturating_add(1) == new.first => {
+            Ok(Some(Missing {
+                first: old.first,
+                last: new.last,
+                cause: old.cause,
+            }))
+        }
+        (Some(old), here) => {
+            tell_missing(rt, slave, old)?;
+            Ok(here)
+        }
+        (None, here) => Ok(here),
+    }
+}
+
+// What is missing by one run.
+fn missing_in(run: &Run) -> Option<Missing> {
     let cause = match run.fate {
-        Fate::Written(_) => return Ok(()),
+        Fate::Written(_) => return None,
         Fate::Refused(_) => "its queue was full",
         Fate::Flushed(_) => "dropped after its queue was full",
         Fate::KeyWait => "it waits for a key packet",
@@ -70,10 +107,19 @@ fn explain_run<R: Eprint>(rt: &R, slave: usize, run: &Run) -> io::Result<()> {
         Fate::AfterFailure(_) => "it was given up after a failure",
         Fate::NoMemory => "there wasn't enough memory",
     };
-    let last = run.first.saturating_add(run.count).saturating_sub(1);
+    Some(Missing {
+        first: run.first,
+        last: run.first.saturating_add(run.count).saturating_sub(1),
+        cause,
+    })
+}
+
+// Says which packets an output lacks, and why.
+fn tell_missing<R: Eprint>(rt: &R, slave: usize, missing: Missing) -> io::Result<()> {
+    let Missing { first, last, cause } = missing;
+    let count = last.saturating_sub(first).saturating_add(1);
     eprintln!(rt;
-        "remux: output {slave} lacks packets {} to {last} ({} packets): {cause}",
-        run.first, run.count
+        "remux: output {slave} lacks packets {first} to {last} ({count} packets): {cause}"
     )
 }
 

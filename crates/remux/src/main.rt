@@ -8,8 +8,13 @@ mod carry;
 mod demux;
 mod ending;
 mod explain;
+mod generate;
 mod give;
 mod help;
+#[cfg(test)]
+mod made;
+#[cfg(test)]
+mod mishaps;
 mod outputs;
 mod probe;
 mod pump;
@@ -20,16 +25,22 @@ mod status;
 mod take;
 #[cfg(test)]
 mod tests;
+mod threaded;
+#[cfg(test)]
+mod worked;
 
 use explain::explain;
 use help::{HELP, VERSION};
-use rmx_edge::{Claim, DirShelf, FileInputs, Shelf, StdSink, claims};
-use run::{Outcome, run_direct};
+use rmx_edge::{Claim, DirShelf, FileInputs, OpenGate, Shelf, StdSink, claims};
+use run::Outcome;
+use slave::ThreadSpawner;
 use status::Status;
 use std::alloc::{AllocError, Global};
 use std::process::ExitCode;
 use std::rt::Files;
+use std::sync::Arc;
 use std::{env, io};
+use threaded::run;
 
 /// The shelves of a run.
 const SHELVES: usize = 16;
@@ -107,7 +118,16 @@ fn main(rt: HostRuntime) -> io::Result<ExitCode> {
     };
     let mut inputs = FileInputs::new(rt.clone()?, claim);
     let mut out = StdSink::new(rt.clone()?);
-    let outcome = run_direct(alloc, &words, &mut inputs, shelves, &mut out);
+    let gate = Arc::new(alloc, OpenGate)?;
+    let outcome = run(
+        &rt,
+        &words,
+        &mut inputs,
+        shelves,
+        &mut out,
+        gate,
+        &mut ThreadSpawner::new(),
+    );
     explain(
         &rt,
         words.as_slice(),

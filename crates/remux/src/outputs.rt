@@ -2,8 +2,9 @@
 ghost use Rattle.std.specs.Prelude.{◌≡◌, ℕ, ◌<◌, ◌^◌, List, Bool, OnErr, length};
 ghost use Rattle.rmx_media.specs.declared.packet.Packet.{Packet};
 ghost use Rattle.tee.specs.Keeps.{dead_in, infos_of, Keeps};
-ghost use Rattle.tee.specs.Seat.{IsInput, Seat};
+ghost use Rattle.tee.specs.Seat.{IsInput};
 ghost use Rattle.remux.specs.Fed.{Answers};
+ghost use Rattle.remux.specs.Lineup.{Lineup};
 
 use rmx_edge::Shelf;
 use rmx_media::{NoMemory, Packet as Piece};
@@ -12,7 +13,7 @@ use tee::{Fed, Tee};
 /// Outputs that are fed packet by packet.
 pub trait Outputs {
     /// They were made of these, and were given these packets.
-    ghost keeps: { Self → List Seat → List Packet → Type 0 };
+    ghost keeps: { Self → Lineup → List Packet → Type 0 };
 
     /// After so many packets an output that aborts, or every one, is known to be dead.
     ghost dead_at: { Self → ℕ → Bool };
@@ -22,11 +23,13 @@ pub trait Outputs {
 
     /// Gives them a packet. Stop says that an output that aborts, or every one, is dead.
     fn feed(&mut self, p: &Piece) -> Result<Fed, NoMemory>
-        requires ready { (start : List Seat) × (given : List Packet) × keeps self.old start given × (length given < 2 ^ 61) }
+        requires ready { (start : Lineup) × (given : List Packet) × keeps self.old start given × (length given < 2 ^ 61) }
         requires taken { takes self.old p.now }
-        ensures fed { (start : List Seat) → Answers result p.now (keeps self.old start) (keeps self.new start) (dead_at self.old) (dead_at self.new) }
+        ensures fed { (start : Lineup) → Answers result p.now (keeps self.old start) (keeps self.new start) (dead_at self.old) (dead_at self.new) }
         ensures takes { (q : Packet) → takes self.old q → takes self.new q }
-        ensures err { OnErr result (self.new ≡ self.old) };
+        // where memory is refused, they keep what they kept, and no more is known of them
+        ensures kept { OnErr result ((start : Lineup) (given : List Packet) → keeps self.old start given → keeps self.new start given) }
+        ensures dead { OnErr result ((u : ℕ) → dead_at self.new u ≡ dead_at self.old u) };
 }
 
 /// All outputs of a run, and how many packets they were given.
@@ -37,7 +40,7 @@ pub struct Handover<S: Shelf> {
 }
 
 impl<S: Shelf> Outputs for Handover<S> {
-    ghost keeps = { λ h start given. Keeps S.state h.tee start given × (h.given ≡ length given) };
+    ghost keeps = { λ h start given. Keeps S.state h.tee start.seats given × (h.given ≡ length given) };
 
     ghost dead_at = { λ h u. dead_in h.tee u };
 

@@ -1,6 +1,6 @@
 // All packets of the bytes at hand.
 ghost use Rattle.std.specs.Prelude.{◌≡◌, ◌<◌, ◌^◌, List, ℕ, length};
-ghost use Rattle.tee.specs.Seat.{Seat};
+ghost use Rattle.remux.specs.Lineup.{Lineup};
 ghost use Rattle.flv_demux.specs.declared.deal.Kinds.{Kinds};
 ghost use Rattle.remux.specs.Flow.{Flowing};
 ghost use Rattle.remux.specs.Pumped.{Pumps};
@@ -34,8 +34,8 @@ pub fn pump<D: Demux, T: Outputs>(
     line: &mut Interleaver,
     outputs: &mut T,
 ) -> Result<Pumped, PumpFault>
-    requires flows { (s : Kinds) × (b : List ℕ) × (start : List Seat) × Flowing s b (D.known demux.old) (D.has demux.old) line.old (T.keeps outputs.old start) (T.dead_at outputs.old) (T.takes outputs.old) × (length b < 2 ^ 61) }
-    ensures pumps { (s : Kinds) (b : List ℕ) (start : List Seat) → (f : Flowing s b (D.known demux.old) (D.has demux.old) line.old (T.keeps outputs.old start) (T.dead_at outputs.old) (T.takes outputs.old))
+    requires flows { (s : Kinds) × (b : List ℕ) × (start : Lineup) × Flowing s b (D.known demux.old) (D.has demux.old) line.old (T.keeps outputs.old start) (T.dead_at outputs.old) (T.takes outputs.old) × (length b < 2 ^ 61) }
+    ensures pumps { (s : Kinds) (b : List ℕ) (start : Lineup) → (f : Flowing s b (D.known demux.old) (D.has demux.old) line.old (T.keeps outputs.old start) (T.dead_at outputs.old) (T.takes outputs.old))
         → Pumps result s b (length f.tags) (D.ended demux.old) (D.known demux.new) (D.has demux.new) line.new (T.keeps outputs.new start) (T.dead_at outputs.new) (T.takes outputs.new) }
     ensures ended { D.ended demux.new ≡ D.ended demux.old }
     ensures same { (line.new.streams ≡ line.old.streams) × (line.new.delta ≡ line.old.delta) }

@@ -1,6 +1,6 @@
 // Reading an input on.
 ghost use Rattle.std.specs.Prelude.{◌≡◌, ◌+◌, ◌<◌, ◌≤◌, ◌^◌, true, false, length, List, ℕ};
-ghost use Rattle.tee.specs.Seat.{Seat};
+ghost use Rattle.remux.specs.Lineup.{Lineup};
 ghost use Rattle.flv_demux.specs.declared.deal.Kinds.{Kinds};
 ghost use Rattle.remux.specs.Flow.{Flowing};
 ghost use Rattle.remux.specs.Reading.{Drains, Late, Ends};
@@ -41,8 +41,8 @@ pub fn read_on<I: Inputs, D: Demux, T: Outputs>(
     requires room { 0 < length buf.old }
     requires small { length buf.old ≤ 65536 }
     requires unended { D.ended demux.old ≡ false }
-    requires flows { (s : Kinds) × (b : List ℕ) × (start : List Seat) × Flowing s b (D.known demux.old) (D.has demux.old) line.old (T.keeps outputs.old start) (T.dead_at outputs.old) (T.takes outputs.old) × (length b + limit < 2 ^ 61) }
-    ensures ends { (s : Kinds) (b : List ℕ) (start : List Seat) → (f : Flowing s b (D.known demux.old) (D.has demux.old) line.old (T.keeps outputs.old start) (T.dead_at outputs.old) (T.takes outputs.old)) → Late b (length f.tags)
+    requires flows { (s : Kinds) × (b : List ℕ) × (start : Lineup) × Flowing s b (D.known demux.old) (D.has demux.old) line.old (T.keeps outputs.old start) (T.dead_at outputs.old) (T.takes outputs.old) × (length b + limit < 2 ^ 61) }
+    ensures ends { (s : Kinds) (b : List ℕ) (start : Lineup) → (f : Flowing s b (D.known demux.old) (D.has demux.old) line.old (T.keeps outputs.old start) (T.dead_at outputs.old) (T.takes outputs.old)) → Late b (length f.tags)
         → Ends result s b limit (I.state inputs.old) (I.state inputs.new) (D.known demux.new) (D.has demux.new) line.new (T.keeps outputs.new start) (T.dead_at outputs.new) (T.takes outputs.new) }
     ensures sound { StaysSound (I.state inputs.old) (I.state inputs.new) }
     ensures count { (I.state inputs.old).faults ≤ (I.state inputs.new).faults }
@@ -75,8 +75,8 @@ pub fn drain<D: Demux, T: Outputs>(
     outputs: &mut T,
 ) -> ReadEnd
     requires ended { D.ended demux.old ≡ true }
-    requires flows { (s : Kinds) × (b : List ℕ) × (start : List Seat) × Flowing s b (D.known demux.old) (D.has demux.old) line.old (T.keeps outputs.old start) (T.dead_at outputs.old) (T.takes outputs.old) × (length b < 2 ^ 61) }
-    ensures drains { (s : Kinds) (b : List ℕ) (start : List Seat) → (f : Flowing s b (D.known demux.old) (D.has demux.old) line.old (T.keeps outputs.old start) (T.dead_at outputs.old) (T.takes outputs.old))
+    requires flows { (s : Kinds) × (b : List ℕ) × (start : Lineup) × Flowing s b (D.known demux.old) (D.has demux.old) line.old (T.keeps outputs.old start) (T.dead_at outputs.old) (T.takes outputs.old) × (length b < 2 ^ 61) }
+    ensures drains { (s : Kinds) (b : List ℕ) (start : Lineup) → (f : Flowing s b (D.known demux.old) (D.has demux.old) line.old (T.keeps outputs.old start) (T.dead_at outputs.old) (T.takes outputs.old))
         → Drains result s b (length f.tags) (D.known demux.new) (D.has demux.new) line.new (T.keeps outputs.new start) (T.dead_at outputs.new) (T.takes outputs.new) }
     ensures same { (line.new.streams ≡ line.old.streams) × (line.new.delta ≡ line.old.delta) }
 {

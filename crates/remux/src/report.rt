@@ -85,7 +85,6 @@ fn number_of_kind(kind: WordKind) -> u64
         WordKind::BadFilter => 13,
         WordKind::NameTooLong => 14,
         WordKind::NoMemory => 15,
-        WordKind::NotBuilt => 16,
     }
 }
 

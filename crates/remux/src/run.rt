@@ -1,6 +1,5 @@
 // The top call.
-ghost use Rattle.std.specs.Prelude.{◌≡◌, ◌<◌, ◌≤◌, ℕ, List, false, true, length, map, string_bytes, All, IfOk, None};
-ghost use Rattle.std.specs.List.{list_all};
+ghost use Rattle.std.specs.Prelude.{◌≡◌, ◌<◌, ◌≤◌, ℕ, List, [], false, true, length, map, string_bytes, All, IfErr, IfOk, None};
 ghost use Rattle.rmx_edge.specs.Inputs.{InputState};
 ghost use Rattle.flv_tags.specs.Tags.{reading_of};
 ghost use Rattle.flv_demux.specs.Deal.{no_discards};
@@ -10,24 +9,27 @@ ghost use Rattle.options.specs.Valid.{IsValidPlan};
 ghost use Rattle.options.specs.Words.{plan, plan_view};
 ghost use Rattle.tee.specs.Keeps.{spare_of};
 ghost use Rattle.tee.specs.Seat.{AreSeats, first_without, Seat};
-ghost use Rattle.remux.specs.Asked.{are_built, asked_of, asked_with, clamped, is_built, not_built as unbuilt};
+ghost use Rattle.remux.specs.Asked.{asked_of, asked_with, clamped, pictures_of};
+ghost use Rattle.remux.specs.Generated.{generated};
 ghost use Rattle.remux.specs.Finding.{FoundIn};
 ghost use Rattle.remux.specs.Told.{told};
 ghost use Rattle.remux.specs.Took.{StaysSound};
-ghost use Rattle.remux.specs.Outcome.{ComesTo, IsMade, IsNothing, IsReported, IsWritten, Opened, PlanComesTo, ReadsAsked, ReadsSound, refused_by, RunsAs, unmade_by, with_status, word_status};
+ghost use Rattle.remux.specs.Outcome.{ComesTo, Concludes, EndsEarly, IsMade, IsNothing, IsReported, IsWritten, ComesFrom, MakesAndComesTo, Opened, ReadsAsked, ReadsSound, refused_by, RunsAs, unmade_by, with_status, word_status};
 ghost use Rattle.remux.specs.Report.{Reports};
 
 use crate::carry::carry;
 use crate::ending::{any_want, failed_slave, status_of};
+use crate::generate::{Generated, MOST_FRAMES};
 use crate::outputs::Handover;
 use crate::probe::{Found, Unfound, find_streams};
+use crate::read::ReadEnd;
 use crate::report::report;
 use crate::status::{Refusal, Status};
 use flv_demux::{Demuxer, Discards};
 use interleaver::Interleaver;
-use options::{Plan, SlavePlan, Source, WordFault, WordKind, read_words};
+use options::{Plan, Source, WordFault, WordKind, read_words};
 use rmx_edge::{Inputs, Shelf, Sink};
-use rmx_media::{Format, Items, NoMemory};
+use rmx_media::{Items, NoMemory};
 use slave::{SlaveEnd, ends_meet_accounts, no_fault_no_loss};
 use std::alloc::Global;
 use tee::{Tee, TeeEnd, TeeFault};
@@ -79,7 +81,7 @@ pub fn run_direct<I: Inputs, S: Shelf + Drop, O: Sink>(
 }
 
 // How a run ends whose words have a fault.
-fn word_status(fault: WordFault) -> Status
+pub fn word_status(fault: WordFault) -> Status
     ensures { result ≡ word_status fault }
 {
     match fault.kind {
@@ -89,7 +91,7 @@ fn word_status(fault: WordFault) -> Status
 }
 
 // Writes the report of an outcome.
-fn reported<S: Drop, O: Sink>(mut outcome: Outcome<S>, out: &mut O) -> Outcome<S>
+pub fn reported<S: Drop, O: Sink>(mut outcome: Outcome<S>, out: &mut O) -> Outcome<S>
     requires { (outcome.status ≡ Status.ReportFault → ⊥) }
     ensures same { with_status outcome.status result ≡ outcome }
     ensures status { IsReported outcome.status result.status }
@@ -100,7 +102,7 @@ fn reported<S: Drop, O: Sink>(mut outcome: Outcome<S>, out: &mut O) -> Outcome<S
 }
 
 // Ends a run before an output was made.
-fn nothing<S>(alloc: Global, status: Status, shelves: Vec<S>) -> Outcome<S>
+pub fn nothing<S>(alloc: Global, status: Status, shelves: Vec<S>) -> Outcome<S>
     ensures { IsNothing status shelves.items result }
 {
     Outcome {
@@ -138,24 +140,8 @@ fn buffer(alloc: Global, size: usize) -> Result<Vec<u8>, NoMemory>
     }
 }
 
-// Whether outputs of that format can be written.
-fn is_built(format: Format) -> bool
-    ensures { result ≡ is_built format }
-{
-    match format {
-        Format::Flv | Format::Adts | Format::Mpegts => true,
-        Format::Segment => false,
-    }
-}
-
-fn are_built(slaves: &[SlavePlan]) -> bool
-    ensures { result ≡ list_all (λ s. is_built s.format) slaves.now }
-{
-    slaves.iter().all(|slave| is_built(slave.format))
-}
-
-// Runs a plan, up to the report.
-fn run_plan<I: Inputs, S: Shelf + Drop>(
+/// Runs a plan, up to the report.
+pub fn run_plan<I: Inputs, S: Shelf + Drop>(
     alloc: Global,
     plan: &Plan,
     inputs: &mut I,
@@ -164,26 +150,29 @@ fn run_plan<I: Inputs, S: Shelf + Drop>(
     requires sixteen { length shelves.items ≡ 16 }
     requires idle { All (λ s. (S.state s).writing ≡ false) shelves.items }
     requires valid { IsValidPlan (plan_view plan.now) }
-    ensures comes { PlanComesTo S.state (asked_of (plan_view plan.now)) (I.state inputs.old) (I.state inputs.new) shelves.items result }
+    ensures comes { ComesFrom S.state (plan_view plan.now).source (asked_of (plan_view plan.now)) (I.state inputs.old) (I.state inputs.new) shelves.items result }
     ensures sound { ReadsAsked (asked_of (plan_view plan.now)) (I.state inputs.old) (I.state inputs.new) }
 {
-    if !are_built(plan.slaves.as_slice()) {
-        return nothing(alloc, not_built(), shelves);
-    }
     match &plan.source {
         Source::Named(name) => run_named(alloc, plan, name.as_str(), inputs, shelves),
-        Source::Generated(_) => nothing(alloc, not_built(), shelves),
+        Source::Generated(count) => run_generated(alloc, plan, *count, shelves),
     }
 }
 
-// How a run ends whose plan needs what doesn't stand yet.
-fn not_built() -> Status
-    ensures { result ≡ Status.Words unbuilt }
+// Runs a plan over the text of so many pictures, which is made while it is read.
+fn run_generated<S: Shelf + Drop>(
+    alloc: Global,
+    plan: &Plan,
+    count: u32,
+    shelves: Vec<S>,
+) -> Outcome<S>
+    requires sixteen { length shelves.items ≡ 16 }
+    requires idle { All (λ s. (S.state s).writing ≡ false) shelves.items }
+    requires valid { IsValidPlan (plan_view plan.now) }
+    ensures comes { (now : InputState) → MakesAndComesTo S.state (generated (pictures_of count)) (asked_with [] (plan_view plan.now)) now now shelves.items result }
 {
-    Status::Words(WordFault {
-        kind: WordKind::NotBuilt,
-        word: 0,
-    })
+    let mut made = Generated::new(count.min(MOST_FRAMES));
+    run_named(alloc, plan, "", &mut made, shelves)
 }
 
 // How many bytes are taken at most.
@@ -191,6 +180,45 @@ fn most_bytes(plan: &Plan) -> u64
     ensures { result ≡ clamped plan.now.max_bytes }
 {
     plan.max_bytes.min(MOST_BYTES).max(FEWEST_BYTES)
+}
+
+// An input that was opened, and whose streams were found.
+#[derive(Drop)]
+pub struct Start {
+    pub buf: Vec<u8>,
+    pub demux: Demuxer,
+    pub found: Found,
+}
+
+// Opens the input of that name and finds its streams, or tells how the run ends.
+pub fn start_input<I: Inputs>(
+    alloc: Global,
+    plan: &Plan,
+    name: &str,
+    inputs: &mut I,
+) -> Result<Start, Status>
+    ensures room { IfOk result (λ s. length s.buf.items ≡ 65536) }
+    ensures found { IfOk result (λ s. (start : InputState) × Opened name.now (I.state inputs.old) start × (start.faults ≤ (I.state inputs.new).faults)
+        × FoundIn s.found (clamped plan.now.max_bytes) start (I.state inputs.new) s.demux.core.reader.ended (told s.demux) (λ b done. HasDealt b done s.demux)) }
+    ensures early { IfErr result (λ s. EndsEarly s (asked_with name.now (plan_view plan.now)) (I.state inputs.old) (I.state inputs.new)) }
+    ensures sound { (I.state inputs.old).sound_at name.now ≡ true → ((I.state inputs.new).faults ≡ (I.state inputs.old).faults) × IfOk result (λ s. (I.state inputs.new).sound_now ≡ true) }
+{
+    let mut buf = match buffer(alloc, PIECE) {
+        Ok(buf) => buf,
+        Err(_) => return Err(Status::NoMemory),
+    };
+    let mut demux = match Demuxer::new(alloc) {
+        Ok(demux) => demux,
+        Err(_) => return Err(Status::NoMemory),
+    };
+    match inputs.open_input(name) {
+        Ok(()) => {}
+        Err(_) => return Err(Status::InputFault),
+    }
+    match find_streams(inputs, &mut demux, &mut buf, most_bytes(plan)) {
+        Ok(found) => Ok(Start { buf, demux, found }),
+        Err(unfound) => Err(refused(unfound)),
+    }
 }
 
 // Runs a plan over the input of that name.
@@ -204,25 +232,19 @@ fn run_named<I: Inputs, S: Shelf + Drop>(
     requires sixteen { length shelves.items ≡ 16 }
     requires idle { All (λ s. (S.state s).writing ≡ false) shelves.items }
     requires valid { IsValidPlan (plan_view plan.now) }
-    requires built { are_built (plan_view plan.now).slaves ≡ true }
     ensures comes { ComesTo S.state (asked_with name.now (plan_view plan.now)) (I.state inputs.old) (I.state inputs.new) shelves.items result }
     ensures sound { (I.state inputs.old).sound_at name.now ≡ true → (I.state inputs.new).faults ≡ (I.state inputs.old).faults }
 {
-    let mut buf = match buffer(alloc, PIECE) {
-        Ok(buf) => buf,
-        Err(_) => return nothing(alloc, Status::NoMemory, shelves),
-    };
-    let mut demux = match Demuxer::new(alloc) {
-        Ok(demux) => demux,
-        Err(_) => return nothing(alloc, Status::NoMemory, shelves),
-    };
-    match inputs.open_input(name) {
-        Ok(()) => {}
-        Err(_) => return nothing(alloc, Status::InputFault, shelves),
-    }
-    match find_streams(inputs, &mut demux, &mut buf, most_bytes(plan)) {
-        Ok(found) => write_found(alloc, plan, inputs, &mut demux, &mut buf, found, shelves),
-        Err(unfound) => nothing(alloc, refused(unfound), shelves),
+    match start_input(alloc, plan, name, inputs) {
+        Ok(start) => {
+            let Start {
+                mut buf,
+                mut demux,
+                found,
+            } = start;
+            write_found(alloc, plan, inputs, &mut demux, &mut buf, found, shelves)
+        }
+        Err(status) => nothing(alloc, status, shelves),
     }
 }
 
@@ -240,7 +262,7 @@ fn refused(unfound: Unfound) -> Status
 }
 
 // How a run ends whose outputs could not be made.
-fn unmade(fault: TeeFault) -> Status
+pub fn unmade(fault: TeeFault) -> Status
     ensures { result ≡ unmade_by fault }
 {
     match fault {
@@ -264,7 +286,6 @@ fn write_found<I: Inputs, S: Shelf + Drop>(
     requires sixteen { length shelves.items ≡ 16 }
     requires idle { All (λ s. (S.state s).writing ≡ false) shelves.items }
     requires valid { IsValidPlan (plan_view plan.now) }
-    requires built { are_built (plan_view plan.now).slaves ≡ true }
     requires found { (start : InputState) × FoundIn found (clamped plan.now.max_bytes) start (I.state inputs.old) demux.old.core.reader.ended (told demux.old) (λ b done. HasDealt b done demux.old) }
     ensures sound { StaysSound (I.state inputs.old) (I.state inputs.new) }
     ensures comes { (name : List ℕ) (old start : InputState) → Opened name old start → start.faults ≤ (I.state inputs.old).faults
@@ -321,6 +342,22 @@ fn write_made<I: Inputs, S: Shelf + Drop>(
     } = tee.finish();
     no_fault_no_loss();
     ends_meet_accounts();
+    outcome_of(plan, demux, end, given, ends, spare)
+}
+
+// What a run comes to whose reading and whose outputs ended so, and which handed over so many packets.
+pub fn outcome_of<S>(
+    plan: &Plan,
+    demux: &Demuxer,
+    end: ReadEnd,
+    given: u64,
+    ends: Items<SlaveEnd<S>>,
+    spare: Items<S>,
+) -> Outcome<S>
+    requires same { length plan.now.slaves.items ≡ length ends.items }
+    requires few { length ends.items ≤ 16 }
+    ensures { Concludes plan.now.slaves.items demux.now.shown end given ends.items spare.items result }
+{
     let failed = failed_slave(plan.slaves.as_slice(), ends.as_slice());
     let wanted = any_want(ends.as_slice());
     Outcome {

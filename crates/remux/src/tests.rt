@@ -5,6 +5,7 @@ ghost use Rattle.rmx_edge.specs.Shelf.{ShelfState};
 use crate::SHELVES;
 use crate::run::run_direct;
 use crate::status::{Ending, Refusal, Status};
+use flv_tags::tag_head;
 use rmx_edge::{MemInputs, MemShelf, MemSink, Shelf};
 use std::alloc::Global;
 use std::test::Fail;
@@ -299,5 +300,185 @@ fn a_dead_output(rt: HostRuntime) -> Result<(), Fail> {
         ran.files.first().map(|file| file.as_slice()),
         Some(TWICE.as_slice())
     );
+    Ok(())
+}
+
+// One tag more.
+fn push_tag(text: &mut Vec<u8>, kind: u8, stamp: i32, body: &[u8]) -> Result<(), Fail>
+    requires kind { kind < 32 }
+    requires size { length body.now < 100 }
+{
+    text.extend_from_slice(&tag_head(kind, body.len() as u32, stamp))?;
+    text.extend_from_slice(body)?;
+    text.extend_from_slice(&(body.len() as u32 + 11).to_be_bytes())?;
+    Ok(())
+}
+
+// A text of video alone: of each picture how much later than the one of 0 it is decoded, how much later it is shown, in ms, and
+// whether decoding can begin there.
+fn video_text(alloc: Global, pictures: &[(i32, u8, bool)]) -> Result<Vec<u8>, Fail> {
+    let mut text = copied(alloc, &SAMPLE[..13])?;
+    push_tag(&mut text, 9, 0, &SAMPLE[60..82])?;
+    for (stamp, later, key) in pictures {
+        let (first, unit) = if *key { (0x17, 0x65) } else { (0x27, 0x41) };
+        let body = [first, 1, 0, 0, *later, 0, 0, 0, 2, unit, 0x88];
+        push_tag(&mut text, 9, *stamp, &body)?;
+    }
+    Ok(text)
+}
+
+// A text of audio alone with a packet at each of these times.
+fn audio_text(alloc: Global, stamps: &[i32]) -> Result<Vec<u8>, Fail> {
+    let mut text = copied(alloc, &TEXT[..32])?;
+    for stamp in stamps {
+        push_tag(&mut text, 8, *stamp, &[0xAF, 1, 0x21])?;
+    }
+    Ok(text)
+}
+
+// The files of the only output of this text: their names, each behind a space, and the bytes of the last one.
+fn files_of(alloc: Global, slave: &str, text: &[u8]) -> Result<(Vec<u8>, Vec<u8>), Fail> {
+    let files = vec![in alloc; (String::from_str(alloc, "in.flv")?, copied(alloc, text)?)]?;
+    let mut inputs = MemInputs::new(files, Vec::new(alloc), 65536);
+    let mut out = MemSink::new(Vec::new(alloc));
+    let words = strings(alloc, &["-i", "in.flv", "-f", "tee", slave])?;
+    let shelves = shelves(alloc, false)?;
+    let outcome = run_direct(alloc, &words, &mut inputs, shelves, &mut out);
+    let mut names = Vec::new(alloc);
+    let mut last = Vec::new(alloc);
+    if let Some(end) = outcome.ends.as_slice().first() {
+        for at in 0..end.shelf.take_count() {
+            names.push(b' ')?;
+            names.extend_from_slice(end.shelf.take_name(at).as_bytes())?;
+            last = copied(alloc, end.shelf.take_bytes(at))?;
+        }
+    }
+    Ok((names, last))
+}
+
+// A picture a second from 0 to 8 s, with key pictures at 0, 5, 6 and 7 s.
+const SECONDS: [(i32, u8, bool); 9] = [
+    (0, 0, true),
+    (1000, 0, false),
+    (2000, 0, false),
+    (3000, 0, false),
+    (4000, 0, false),
+    (5000, 0, true),
+    (6000, 0, true),
+    (7000, 0, true),
+    (8000, 0, false),
+];
+
+const PLAYLIST: &str = "\
+#EXTM3U
+#EXT-X-VERSION:3
+#EXT-X-MEDIA-SEQUENCE:0
+#EXT-X-TARGETDURATION:5
+#EXTINF:5.000000,
+s000.ts
+#EXTINF:1.000000,
+s001.ts
+#EXTINF:1.000000,
+s002.ts
+#EXTINF:1.000000,
+s003.ts
+#EXT-X-ENDLIST
+";
+
+const TIMES: &str = "\
+s000.ts,0.000000,5.000000
+s001.ts,5.000000,6.000000
+s002.ts,6.000000,7.000000
+s003.ts,7.000000,8.000000
+";
+
+// Lists of segments of two seconds.
+#[test]
+fn lists_of_segments(rt: HostRuntime) -> Result<(), Fail> {
+    let cases = [
+        (
+            "[f=segment:segment_time=2:segment_list=l.csv]s%03d.ts",
+            " s000.ts s001.ts s002.ts s003.ts l.csv",
+            TIMES,
+        ),
+        (
+            "[f=segment:segment_time=2:segment_list=l.m3u8]s%03d.ts",
+            " s000.ts s001.ts s002.ts s003.ts l.m3u8",
+            PLAYLIST,
+        ),
+        (
+            "[f=segment:segment_time=2:segment_list=l.csv:segment_list_type=flat]s%03d.ts",
+            " s000.ts s001.ts s002.ts s003.ts l.csv",
+            "s000.ts\ns001.ts\ns002.ts\ns003.ts\n",
+        ),
+        (
+            "[f=segment:segment_time=2:break_non_keyframes=1:segment_list=l]%d",
+            " 0 1 2 3 4 l",
+            "0\n1\n2\n3\n4\n",
+        ),
+        (
+            "[f=segment:segment_time=6:segment_list=l.csv]a,%d\"",
+            " a,0\" a,1\" l.csv",
+            "\"a,0\"\"\",0.000000,6.000000\n\"a,1\"\"\",6.000000,8.000000\n",
+        ),
+        (
+            "[f=segment:segment_time=6:segment_start_number=4294967295:segment_list=l]%d",
+            " 4294967295 4294967296 l",
+            "4294967295\n4294967296\n",
+        ),
+    ];
+    let text = video_text(rt.alloc(), &SECONDS)?;
+    for (slave, names, list) in cases {
+        let (made, last) = files_of(rt.alloc(), slave, &text)?;
+        assert_eq!(&rt; made.as_slice(), names.as_bytes());
+        assert_eq!(&rt; last.as_slice(), list.as_bytes());
+    }
+    Ok(())
+}
+
+// No packets at all; pictures that are shown in another order than that of decoding; audio alone.
+#[test]
+fn segments_of_other_inputs(rt: HostRuntime) -> Result<(), Fail> {
+    let alloc = rt.alloc();
+    let slave = "[f=segment:segment_list=l.csv]%d";
+    let (names, list) = files_of(alloc, slave, &video_text(alloc, &[])?)?;
+    assert_eq!(&rt; names.as_slice(), b" 0 l.csv".as_slice());
+    assert_eq!(&rt; list.as_slice(), b"0,0.000000,0.000000\n".as_slice());
+    let shown = [
+        (0, 80, true),
+        (40, 0, false),
+        (2000, 0, true),
+        (2080, 0, true),
+    ];
+    let (names, list) = files_of(alloc, slave, &video_text(alloc, &shown)?)?;
+    assert_eq!(&rt; names.as_slice(), b" 0 1 l.csv".as_slice());
+    assert_eq!(&rt;
+        list.as_slice(),
+        b"0,0.000000,2.000000\n1,2.000000,2.000000\n".as_slice()
+    );
+    let audio = audio_text(alloc, &[0, 1999, 2000, 5000])?;
+    let slave = "[f=segment:segment_format=adts:segment_list=l.csv]%d";
+    let (names, list) = files_of(alloc, slave, &audio)?;
+    assert_eq!(&rt; names.as_slice(), b" 0 1 2 l.csv".as_slice());
+    assert_eq!(&rt;
+        list.as_slice(),
+        b"0,0.000000,2.000000\n1,2.000000,5.000000\n2,5.000000,5.000000\n".as_slice()
+    );
+    Ok(())
+}
+
+// Segments whose times begin at 0 are alike where their packets are.
+#[test]
+fn times_that_begin_again(rt: HostRuntime) -> Result<(), Fail> {
+    let alloc = rt.alloc();
+    let text = video_text(alloc, &[(0, 0, true), (2000, 0, true)])?;
+    let first = video_text(alloc, &[(0, 0, true)])?;
+    let slave = "[f=segment:segment_format=flv:reset_timestamps=1]%d";
+    let (names, again) = files_of(alloc, slave, &text)?;
+    assert_eq!(&rt; names.as_slice(), b" 0 1".as_slice());
+    let (_, alone) = files_of(alloc, slave, &first)?;
+    assert_eq!(&rt; again.as_slice(), alone.as_slice());
+    let (_, late) = files_of(alloc, "[f=segment:segment_format=flv]%d", &text)?;
+    assert!(&rt; late.as_slice() != alone.as_slice());
     Ok(())
 }

@@ -1,6 +1,5 @@
-use Rattle.std.proofs.Common.{ap, ◌∙◌, subst, sym, refl}
+use Rattle.std.proofs.Common.{ap, ◌∙◌, refl}
 use Rattle.interleaver.specs.Queues.{Pending}
-use Rattle.remux.specs.Gave.{FlushedSome}
 use Rattle.remux.proofs.Counting.{fewer_still, ready_next}
 use Rattle.remux.proofs.Accepting.{each_more, head_taken, rest_taken}
 use Rattle.remux.proofs.Flushing.{flush_start, flush_more, flush_stop, flush_some}
@@ -28,8 +27,7 @@ pub returns-in-Ok-Stop-clause-flushed : goal.returns-in-Ok-Stop-clause-flushed
 returns-in-Ok-Stop-clause-flushed g c = λ start. flush_stop _ _ _ _ _ _ _ _ _ _ (c.loop-p.invariant.flushing start) c.in-Some.ensures.pops.1 ((rw c.in-Ok-Stop.field-0-is at c.in-Ok-Stop.ensures.fed) start)
 
 pub returns-in-Err-clause-some : goal.returns-in-Err-clause-some
-returns-in-Err-clause-some g c = λ start.
-    subst (λ t. FlushedSome c.args.line.now.pending (g.T.Outputs.keeps c.args.outputs.now start) (g.T.Outputs.keeps t start) (g.T.Outputs.dead_at c.args.outputs.now) (g.T.Outputs.dead_at t)) (sym c.in-Err.ensures.err) (flush_some _ _ _ _ _ _ (c.loop-p.invariant.flushing start))
+returns-in-Err-clause-some g c = λ start. flush_some _ _ _ _ _ _ _ _ (c.loop-p.invariant.flushing start) (c.in-Err.ensures.kept start) c.in-Err.ensures.dead
 
 pub returns-in-Ok-Stop-clause-same : goal.returns-in-Ok-Stop-clause-same
 returns-in-Ok-Stop-clause-same g c = (ap (λ (v : Pending). v.streams) c.in-Some.ensures.pops.2 ∙ c.loop-p.invariant.same.0, ap (λ (v : Pending). v.delta) c.in-Some.ensures.pops.2 ∙ c.loop-p.invariant.same.1)

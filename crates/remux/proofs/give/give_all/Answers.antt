@@ -1,6 +1,5 @@
-use Rattle.std.proofs.Common.{false, subst, sym, ap, ◌∙◌, []}
+use Rattle.std.proofs.Common.{false, ap, ◌∙◌, []}
 use Rattle.interleaver.specs.Queues.{Pending}
-use Rattle.remux.specs.Gave.{GaveSome}
 use Rattle.remux.proofs.Giving.{stopped_all, gave_all, given_one, given_start, gave_some}
 use Rattle.remux.proofs.Counting.{fewer_still, ready_next}
 use Rattle.remux.proofs.Accepting.{each_more, head_taken, rest_taken}
@@ -18,7 +17,7 @@ returns-in-Ok-Stop-clause-gave g c = λ start. stopped_all _ _ _ _ _ _ _ _ _ _ c
 
 pub returns-in-Ok-Stop-clause-same : goal.returns-in-Ok-Stop-clause-same
 returns-in-Ok-Stop-clause-same g c =
-    (ap (λ (v : Pending). v.streams) c.in-Some.ensures.pops.2 ∙ ap (λ (v : Pending). v.streams) (c.loop-p.invariant.given []).1, ap (λ (v : Pending). v.delta) c.in-Some.ensures.pops.2 ∙ ap (λ (v : Pending). v.delta) (c.loop-p.invariant.given []).1)
+    (ap (λ (v : Pending). v.streams) c.in-Some.ensures.pops.2 ∙ ap (λ (v : Pending). v.streams) (c.loop-p.invariant.given (record { seats = []; threads = [] })).1, ap (λ (v : Pending). v.delta) c.in-Some.ensures.pops.2 ∙ ap (λ (v : Pending). v.delta) (c.loop-p.invariant.given (record { seats = []; threads = [] })).1)
 
 pub returns-in-Ok-Stop-clause-takes : goal.returns-in-Ok-Stop-clause-takes
 returns-in-Ok-Stop-clause-takes g c = λ q h. c.in-Ok-Stop.ensures.takes q (c.loop-p.invariant.takes q h)
@@ -28,11 +27,10 @@ returns-in-Ok-Stop-clause-taken g c = each_more _ _ _ c.in-Ok-Stop.ensures.takes
 
 pub returns-in-Err-clause-same : goal.returns-in-Err-clause-same
 returns-in-Err-clause-same g c =
-    (ap (λ (v : Pending). v.streams) c.in-Some.ensures.pops.2 ∙ ap (λ (v : Pending). v.streams) (c.loop-p.invariant.given []).1, ap (λ (v : Pending). v.delta) c.in-Some.ensures.pops.2 ∙ ap (λ (v : Pending). v.delta) (c.loop-p.invariant.given []).1)
+    (ap (λ (v : Pending). v.streams) c.in-Some.ensures.pops.2 ∙ ap (λ (v : Pending). v.streams) (c.loop-p.invariant.given (record { seats = []; threads = [] })).1, ap (λ (v : Pending). v.delta) c.in-Some.ensures.pops.2 ∙ ap (λ (v : Pending). v.delta) (c.loop-p.invariant.given (record { seats = []; threads = [] })).1)
 
 pub returns-in-Err-clause-some : goal.returns-in-Err-clause-some
-returns-in-Err-clause-some g c = λ start.
-    subst (λ t. GaveSome c.args.line.now.streams c.args.line.now.delta c.args.line.now.pending (g.T.Outputs.keeps c.args.outputs.now start) (g.T.Outputs.keeps t start) (g.T.Outputs.dead_at c.args.outputs.now) (g.T.Outputs.dead_at t)) (sym c.in-Err.ensures.err) (gave_some _ _ _ _ _ _ (c.loop-p.invariant.given start))
+returns-in-Err-clause-some g c = λ start. gave_some _ _ _ _ _ _ _ _ (c.loop-p.invariant.given start) (c.in-Err.ensures.kept start) c.in-Err.ensures.dead
 
 pub returns-in-Err-clause-takes : goal.returns-in-Err-clause-takes
 returns-in-Err-clause-takes g c = λ q h. c.in-Err.ensures.takes q (c.loop-p.invariant.takes q h)
@@ -52,7 +50,7 @@ loop-p-preserved g c = record {
 
 pub returns-clause-same : goal.returns-clause-same
 returns-clause-same g c =
-    (ap (λ (v : Pending). v.streams) c.in_default.ensures.pops.1 ∙ ap (λ (v : Pending). v.streams) (c.loop-p.invariant.given []).1, ap (λ (v : Pending). v.delta) c.in_default.ensures.pops.1 ∙ ap (λ (v : Pending). v.delta) (c.loop-p.invariant.given []).1)
+    (ap (λ (v : Pending). v.streams) c.in_default.ensures.pops.1 ∙ ap (λ (v : Pending). v.streams) (c.loop-p.invariant.given (record { seats = []; threads = [] })).1, ap (λ (v : Pending). v.delta) c.in_default.ensures.pops.1 ∙ ap (λ (v : Pending). v.delta) (c.loop-p.invariant.given (record { seats = []; threads = [] })).1)
 
 pub returns-clause-gave : goal.returns-clause-gave
 returns-clause-gave g c = λ start. gave_all _ _ _ _ _ _ _ (c.loop-p.invariant.given start) c.in_default.ensures.pops

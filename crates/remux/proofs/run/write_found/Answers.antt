@@ -6,14 +6,11 @@ use Rattle.remux.specs.Asked.{asked_with, clamped}
 use Rattle.remux.specs.Outcome.{IsNothing, unmade_by}
 use Rattle.remux.specs.Starting.{new_line}
 use Rattle.remux.specs.declared.status.Status.{Status}
-use Rattle.remux.proofs.Running.{aborts_by, all_built, infos_found, nothing_early, script_found, script_told, seats_found, some_infos, unmade_early}
+use Rattle.remux.proofs.Running.{aborts_by, infos_found, nothing_early, script_found, script_told, seats_found, some_infos, unmade_early}
 use Rattle.remux.proofs.run.write_found.Goals as goal
 
 pub new-requires-clause-some : goal.new-requires-clause-some
 new-requires-clause-some g c = let w = c.requires.found in some_infos (clamped c.args.plan.now.max_bytes) c.args.found w.0 _ c.args.demux.now c.in-Some.infos.now w.1 c.in-Some.ensures.known.1
-
-pub new-requires-2-clause-built : goal.new-requires-2-clause-built
-new-requires-2-clause-built g c = all_built (plan_view c.args.plan.now).slaves c.requires.built
 
 pub write_made-requires-clause-made : goal.write_made-requires-clause-made
 write_made-requires-clause-made g c =
