@@ -482,3 +482,20 @@ fn times_that_begin_again(rt: HostRuntime) -> Result<(), Fail> {
     assert!(&rt; late.as_slice() != alone.as_slice());
     Ok(())
 }
+
+// Segments are an output by themselves too, and a list may not have the name of another output.
+#[test]
+fn words_of_segments(rt: HostRuntime) -> Result<(), Fail> {
+    let words = ["-i", "in.flv", "-f", "segment", "s%d.ts"];
+    let ran = run_on(rt.alloc(), &words, &SAMPLE, 65536)?;
+    assert_eq!(&rt; ran.status, Status::Done);
+    assert_eq!(&rt; ran.files.first().map(|file| file.len()), Some(1128));
+    let same = "[f=segment:segment_list=a]s%d.ts|[f=flv]a";
+    let words = ["-i", "in.flv", "-f", "tee", same];
+    let ran = run_on(rt.alloc(), &words, &SAMPLE, 65536)?;
+    assert_eq!(&rt;
+        ran.report.as_slice(),
+        b"status 1 words fault=11 word=4\n".as_slice()
+    );
+    Ok(())
+}
