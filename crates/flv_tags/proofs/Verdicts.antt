@@ -1,11 +1,10 @@
 -- A text with a fault at its head has no tags.
 use Rattle.std.proofs.Common.{◌≡◌, ℕ, ◌⊎◌, inl, inr, Bool, true, false, List, [], length, drop, zero, suc, ap, ◌∙◌, sym, refl, Option, Some, None, nat_lt}
 use Rattle.std.specs.Prelude.{if◌then◌else◌}
-use Rattle.flv_tags.specs.declared.tag.Tag.{Tag}
 use Rattle.flv_tags.specs.declared.tag.TagFault.{TagFault}
 use Rattle.flv_tags.specs.declared.tag.TagFault.TheVariants.{NotFlv, BadOffset, CutTag}
 use Rattle.flv_tags.specs.Front.{Front, Nothing, Part, One, front_of}
-use Rattle.flv_tags.specs.Tags.{Reading, only, with_tag, reading_by, walk, reading_of_tags, reading_past, reading_of, is_flv, offset_of}
+use Rattle.flv_tags.specs.Tags.{Reading, only, reading_by, walk, reading_of_tags, reading_past, reading_of, is_flv, offset_of}
 
 -- behind the head a text is whole or cut
 IsPast : Option TagFault → Type 0

@@ -10,7 +10,26 @@ use crate::head::{HeadStep, read_head};
 use crate::{TagFault, TagStep};
 use bytes::BytesMut;
 use rmx_media::NoMemory;
-use std::alloc::Global;
+use std::alloc::{AllocError, Global};
+
+// Adds a piece, in the same block where that has room and no part of it is in use. Else a new block takes what is left, with
+// room for so many bytes. It is made as a `Vec`, since a buffer that reserves room fills all of it with zeros first.
+fn append(text: &mut BytesMut, piece: &[u8], more: usize) -> Result<(), AllocError>
+    ensures ok { OnOk result (text.new.items ≡ text.old.items ++ piece.now) }
+    ensures err { OnErr result (text.new.items ≡ text.old.items) }
+{
+    if text.try_reclaim(piece.len()) {
+        text.extend_reserved(piece);
+        return Ok(());
+    }
+    let rest = text.as_slice();
+    let room = rest.len().saturating_add(piece.len().max(more));
+    let mut block = Vec::with_capacity(*text.allocator(), room)?;
+    block.extend_from_slice(rest)?;
+    block.extend_from_slice(piece)?;
+    *text = BytesMut::from_vec(block);
+    Ok(())
+}
 
 /// Reads the tags of an FLV text that comes in any pieces. It holds what no tag was made of yet, and hands bodies out
 /// as parts of it, which share its memory.
@@ -51,13 +70,11 @@ impl TagReader {
             return Ok(());
         }
         // A body that comes in many pieces gets its room at once.
-        let room = piece.len().max(self.missing());
-        match self.text.reserve(room) {
-            Ok(()) => {}
-            Err(_) => return Err(NoMemory),
+        let missing = self.missing();
+        match append(&mut self.text, piece, missing) {
+            Ok(()) => Ok(()),
+            Err(_) => Err(NoMemory),
         }
-        self.text.extend_reserved(piece);
-        Ok(())
     }
 
     fn missing(&self) -> usize {

@@ -1,7 +1,7 @@
 // What stands before a cell's payload.
-ghost use Rattle.std.specs.Prelude.{◌≡◌, ◌+◌, ◌-◌, ◌<◌, ◌≤◌, length, ◌++◌};
+ghost use Rattle.std.specs.Prelude.{◌≡◌, ◌+◌, ◌-◌, ◌<◌, ◌≤◌, false, length, ◌++◌};
 ghost use Rattle.ts_psi.specs.Cell.{stuffing, cell_head};
-ghost use Rattle.ts_mux.specs.Cells.{front_of, start_bit};
+ghost use Rattle.ts_mux.specs.Cells.{front_of, start_bit, cell as cell_of, no_flags};
 
 use ts_psi::cell::{blank, put};
 
@@ -40,6 +40,17 @@ pub(crate) fn front(pid: u16, start: bool, counter: u8, flags: &[u8], count: usi
     put(&mut cell, 4, &[field as u8]);
     put(&mut cell, 5, &flags[..field.min(flags.len())]);
     cell
+}
+
+/// Makes it a cell of these 184 bytes, which need no field before them.
+pub(crate) fn make_whole(cell: &mut [u8; 188], pid: u16, counter: u8, body: &[u8])
+    requires pid { pid < 8192 }
+    requires counter { counter < 16 }
+    requires body { length body.now ≡ 184 }
+    ensures { cell.new ≡ cell_of pid false counter no_flags body.now }
+{
+    put(cell, 0, &head(pid, false, 1, counter));
+    put(cell, 4, body);
 }
 
 #[cfg(test)]

@@ -7,6 +7,7 @@ ghost use Rattle.ts_mux.specs.Cells.{cells_of, more_cells, cell_count};
 use crate::joined::Joined;
 use crate::pieces::Source;
 use rmx_edge::{Shelf, ShelfFault};
+use ts_psi::cell::blank;
 
 /// How the cells of a PES packet begin.
 #[derive(Clone, Copy)]
@@ -38,9 +39,10 @@ fn write_more<'a, P: Source<'a>, S: Shelf>(
     ensures counted { OnOk result (counter.new ≡ (counter.old + (size + 183) / 184) % 16) }
 {
     let mut left = size;
+    let mut cell = blank();
     while left > 0 {
         let count = left.min(184);
-        let cell = bytes.cell(pid, false, *counter, &[0], &[], count);
+        bytes.next_cell(&mut cell, pid, *counter, count);
         match shelf.write(&cell) {
             Ok(()) => {}
             Err(fault) => return Err(fault),

@@ -1,8 +1,8 @@
 // Pieces read as one run of bytes.
-ghost use Rattle.std.specs.Prelude.{◌≡◌, ◌+◌, ◌-◌, ◌<◌, ◌≤◌, length, take, drop, ◌++◌, min, MatchOption};
-ghost use Rattle.ts_mux.specs.Cells.{cell as cell_of};
+ghost use Rattle.std.specs.Prelude.{◌≡◌, ◌+◌, ◌-◌, ◌<◌, ◌≤◌, false, length, take, drop, ◌++◌, min, MatchOption};
+ghost use Rattle.ts_mux.specs.Cells.{cell as cell_of, no_flags};
 
-use crate::cell_front::front;
+use crate::cell_front::{front, make_whole};
 use crate::pieces::Source;
 use ts_psi::cell::put;
 
@@ -65,6 +65,25 @@ impl<'a, P: Source<'a>> Joined<'a, P> {
         while at < out.len() {
             at += self.copy_next(out, at);
         }
+    }
+
+    /// Makes it a cell behind a PES packet's first one, which carries the next bytes, so many.
+    pub(crate) fn next_cell(&mut self, cell: &mut [u8; 188], pid: u16, counter: u8, count: usize)
+        requires pid { pid < 8192 }
+        requires counter { counter < 16 }
+        requires count { count ≤ 184 }
+        requires left { count ≤ length (self.old.current.now ++ P.left self.old.pieces) }
+        ensures cell { cell.new ≡ cell_of pid false counter no_flags (take count (self.old.current.now ++ P.left self.old.pieces)) }
+        ensures rest { self.new.current.now ++ P.left self.new.pieces ≡ drop count (self.old.current.now ++ P.left self.old.pieces) }
+    {
+        // Most cells are filled from one piece: those take one copy of a fixed size.
+        if count == 184 && self.current.len() >= 184 {
+            let (body, rest) = self.current.split_at(184);
+            self.current = rest;
+            make_whole(cell, pid, counter, body);
+            return;
+        }
+        *cell = self.cell(pid, false, counter, &[0], &[], count);
     }
 
     /// A cell that carries so many bytes, first those of `head` and then the next ones.

@@ -26,19 +26,19 @@ returns-clause-run g c =
 pub returns-in-Err-clause-run : goal.returns-in-Err-clause-run
 returns-in-Err-clause-run g c =
     let left : List ℕ = c.loop-left.bytes.current.now ++ g.P.Source.left c.loop-left.bytes.pieces in
-    let rest : List ℕ = c.cell-cell.new.self.current.now ++ g.P.Source.left c.cell-cell.new.self.pieces in
+    let rest : List ℕ = c.next_cell.new.self.current.now ++ g.P.Source.left c.next_cell.new.self.pieces in
     c.loop-left.invariant.run (Err c.in-Err.fault) (g.S.Shelf.state c.write.new.self)
-    (write_last (more_cells c.args.pid c.loop-left.counter left) (more_cells c.args.pid (next c.loop-left.counter) rest) c.cell-cell.result c.in-Err.fault
+    (write_last (more_cells c.args.pid c.loop-left.counter left) (more_cells c.args.pid (next c.loop-left.counter) rest) c.next_cell.new.cell c.in-Err.fault
     (g.S.Shelf.state c.loop-left.shelf) (g.S.Shelf.state c.write.new.self)
-    (step c.args.pid c.loop-left.counter c.loop-left.left c.min-count.result left rest c.cell-cell.result c.loop-left.invariant.left c.loop-left-test.true
-    c.min-count.ensures c.cell-cell.ensures.cell c.cell-cell.ensures.rest)
+    (step c.args.pid c.loop-left.counter c.loop-left.left c.min-count.result left rest c.next_cell.new.cell c.loop-left.invariant.left c.loop-left-test.true
+    c.min-count.ensures c.next_cell.ensures.cell c.next_cell.ensures.rest)
     c.in-Err.ensures.made)
 
 pub loop-left-preserved : goal.loop-left-preserved
 loop-left-preserved g c =
     let left : List ℕ = c.loop-left.bytes.current.now ++ g.P.Source.left c.loop-left.bytes.pieces in
-    let rest : List ℕ = c.cell-cell.new.self.current.now ++ g.P.Source.left c.cell-cell.new.self.pieces in
-    let sizes : length rest ≡ length left - c.min-count.result = ap length c.cell-cell.ensures.rest ∙ length-drop c.min-count.result left in
+    let rest : List ℕ = c.next_cell.new.self.current.now ++ g.P.Source.left c.next_cell.new.self.pieces in
+    let sizes : length rest ≡ length left - c.min-count.result = ap length c.next_cell.ensures.rest ∙ length-drop c.min-count.result left in
     record {
       begun = c.in-Ok.ensures.made.writing;
       counter = omega arith;
@@ -46,9 +46,9 @@ loop-left-preserved g c =
       counted = let fewer : (c.loop-left.left + 183) / 184 ≡ (c.loop-left.left - c.min-count.result + 183) / 184 + 1 = omega arith in
           omega (arith, c.loop-left.invariant.counted);
       run = λ r s h. c.loop-left.invariant.run r s
-          (write_more (more_cells c.args.pid c.loop-left.counter left) (more_cells c.args.pid (next c.loop-left.counter) rest) c.cell-cell.result c.in-Ok.field-0 r
+          (write_more (more_cells c.args.pid c.loop-left.counter left) (more_cells c.args.pid (next c.loop-left.counter) rest) c.next_cell.new.cell c.in-Ok.field-0 r
           (g.S.Shelf.state c.loop-left.shelf) (g.S.Shelf.state c.write.new.self) s
-          (step c.args.pid c.loop-left.counter c.loop-left.left c.min-count.result left rest c.cell-cell.result c.loop-left.invariant.left c.loop-left-test.true
-          c.min-count.ensures c.cell-cell.ensures.cell c.cell-cell.ensures.rest)
+          (step c.args.pid c.loop-left.counter c.loop-left.left c.min-count.result left rest c.next_cell.new.cell c.loop-left.invariant.left c.loop-left-test.true
+          c.min-count.ensures c.next_cell.ensures.cell c.next_cell.ensures.rest)
           c.in-Ok.ensures.made h);
     }

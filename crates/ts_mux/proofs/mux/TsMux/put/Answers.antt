@@ -1,4 +1,4 @@
-use Rattle.std.proofs.Common.{rules, ◌≡◌, List, [], ◌∷◌, ◌++◌, sym, subst, w64, SFits}
+use Rattle.std.proofs.Common.{rules, List, [], ◌∷◌, ◌++◌, sym, subst, w64, SFits}
 use Rattle.std.proofs.lemmas.Result.{on_ok_weaker}
 use Rattle.rmx_media.specs.declared.packet.Packet.{Packet}
 use Rattle.rmx_media.specs.declared.packet.Format.TheVariants.{Mpegts}
