@@ -252,6 +252,35 @@ fn times_begin_at_0(rt: HostRuntime) -> Result<(), Fail> {
     Ok(())
 }
 
+// Times that go back, also behind that of the first packet. The last file ends at the greatest time of all, which a packet of
+// the file before it has here.
+#[test]
+fn times_that_go_back(rt: HostRuntime) -> Result<(), Fail> {
+    let template = Template::parse("%d").ok_or("it is a template")?;
+    let options = options(rt.alloc(), Format::Mpegts, "l", ListKind::Csv, false)?;
+    let streams = alone(rt.alloc(), Kind::Video)?;
+    let seconds = [
+        (3, true),
+        (2, true),
+        (6, false),
+        (4, true),
+        (5, true),
+        (4, false),
+    ];
+    let shelf = written(
+        rt.alloc(),
+        options,
+        streams,
+        Kind::Video,
+        &template,
+        &seconds,
+    )?;
+    assert!(rt; has_takes(&shelf, &["0", "1", "l"]));
+    let list = "0,0.000000,2.000000\n1,2.000000,3.000000\n";
+    assert!(rt; last_bytes(&shelf) == list.as_bytes());
+    Ok(())
+}
+
 #[test]
 fn numbers_go_on(rt: HostRuntime) -> Result<(), Fail> {
     let template = Template::parse("%d").ok_or("it is a template")?;
