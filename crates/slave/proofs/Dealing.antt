@@ -16,8 +16,8 @@ use Rattle.rmx_media.specs.declared.packet.Packet.{Packet}
 use Rattle.slave.specs.declared.records.LaneNote.{LaneNote}
 use Rattle.slave.specs.Given.{Given, Sent, Swept, Gives}
 use Rattle.slave.specs.AccountsAll.{GivesAt, SweptAt}
-use Rattle.slave.specs.LaneAccounts.{is_named, accepted_from, payload_bytes, IsFullFor, IsReceipt, AreReceipts, SweptStretch, Dealt}
-use Rattle.slave.specs.Handed.{messages_from, Handed, message, receipt_of, HandsOver, PassedOn, LanesDeal}
+use Rattle.slave.specs.LaneAccounts.{is_named, accepted_from, payload_bytes, IsFullFor, IsReceipt, AreReceipts, SweptStretch, Dealt, messages_from, PassedOn}
+use Rattle.slave.specs.Handed.{Handed, message, receipt_of, HandsOver, LanesDeal}
 use Rattle.slave.proofs.Past.{same_number, number_same}
 
 -- the packets of the messages
@@ -349,4 +349,5 @@ lanes_deal L given refusals T numbers n k overs saw passed stretches =
           let le = s.0 in
           (omega (arith, le, many), λ u r e q. (let h = heads_at rs refusals u r k.heads q in let low = s.1 u h.0 e h.1 in omega (arith, low, h.2))));
       stretches = stretches;
+      passed = subst (λ (ms : List Msg). PassedOn T ms) k.given_is passed;
     }

@@ -21,6 +21,7 @@ pub mod Passing
 pub mod Past
 pub mod Rows
 pub mod Samples
+pub mod Schedules
 pub mod Sound
 pub mod Opening
 pub mod Steps

@@ -7,7 +7,7 @@ use Rattle.rmx_media.specs.declared.packet.Packet.{Packet}
 use Rattle.slave.specs.Given.{Given, Sent, Swept, Gives}
 use Rattle.slave.specs.AccountsAll.{SweptAt}
 use Rattle.slave.specs.LaneAccounts.{SweptStretch}
-use Rattle.slave.specs.Handed.{PassedOn}
+use Rattle.slave.specs.LaneAccounts.{PassedOn}
 use Rattle.slave.specs.Stretches.{Block, sent, swept, given_in, larger, given_of, messages_of, numbers_of, size_limit, Sized, Stretches}
 use Rattle.slave.specs.WorkerDeals.{WorkersPassOn}
 use Rattle.slave.proofs.Stretches.{swept_cases}

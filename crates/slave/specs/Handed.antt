@@ -8,14 +8,9 @@ use Rattle.lane.specs.Told.{SawInTime}
 use Rattle.lane.specs.declared.msg.Msg.{Msg}
 use Rattle.rmx_media.specs.declared.packet.Packet.{Packet}
 use Rattle.slave.specs.declared.records.LaneNote.{LaneNote}
-use Rattle.slave.specs.Given.{Given, Sent, Swept}
+use Rattle.slave.specs.Given.{Given}
 use Rattle.slave.specs.AccountsAll.{SweptAt}
-use Rattle.slave.specs.LaneAccounts.{is_named, accepted_from, AreReceipts, SweptStretch, Dealt}
-
--- the packets from the n-th on that were not refused, each with its place
-abbrev pub messages_from : List ReceiptSide → ℕ → List Packet → List Msg
-messages_from rs n [] = []
-messages_from rs n (p ∷ ps) = if is_named rs n then messages_from rs (n + 1) ps else record { index = n; packet = p } ∷ messages_from rs (n + 1) ps
+use Rattle.slave.specs.LaneAccounts.{accepted_from, AreReceipts, SweptStretch, Dealt, messages_from, PassedOn}
 
 -- A lane was offered these packets, one after another, each with its place as index. They were given, or refused with a receipt.
 pub record Handed (cap limit : ℕ) (L : List Packet) (given : List Msg) (refusals : List (Refusal Msg)) (rs : List ReceiptSide) : Type 0 where
@@ -42,14 +37,6 @@ pub record HandsOver : Type 0 where
       → Handed cap limit L given refusals rs → is_full size_of (record { cap = cap; limit = limit }) given q.head (size_of (message (length L) p)) ≡ true
       → ((i : ℕ) (x : Refusal Msg) → slice_get refusals i ≡ Some x → x.head ≤ q.head)
       → Handed cap limit (L ++ p ∷ []) given (refusals ++ q ∷ []) (rs ++ receipt_of (length L) given rs q.head ∷ [])
-
--- an output was given these messages, in order: each packet as it is, or to be flushed
-abbrev pub PassedOn : List Given → List Msg → Type 0
-PassedOn [] [] = Unit {0}
-PassedOn [] (m ∷ ms) = ⊥
-PassedOn (t ∷ T) [] = ⊥
-PassedOn (Sent i p ∷ T) (m ∷ ms) = (i ≡ m.index) × (p ≡ m.packet) × PassedOn T ms
-PassedOn (Swept i v ∷ T) (m ∷ ms) = (i ≡ m.index) × PassedOn T ms
 
 -- Where an output was given all messages of a lane, and was told to flush in stretches, the lane dealt its packets.
 abbrev pub LanesDeal : Type 0

@@ -6,11 +6,12 @@ use Rattle.fifo_core.specs.declared.types.Fate.{Fate}
 use Rattle.fifo_core.specs.declared.types.Fate.TheVariants as fate
 use Rattle.fifo_core.specs.declared.types.EndState.TheVariants as ends
 use Rattle.fifo_core.specs.History.{fates_of}
+use Rattle.lane.specs.declared.msg.Msg.{Msg}
 use Rattle.lane.specs.Sides.{ReceiptSide}
 use Rattle.rmx_media.specs.declared.packet.Packet.{Packet}
 use Rattle.slave.specs.declared.records.LaneNote.{LaneNote}
 use Rattle.slave.specs.Origin.{Origin}
-use Rattle.slave.specs.Given.{Given, Gives}
+use Rattle.slave.specs.Given.{Given, Sent, Swept, Gives}
 use Rattle.slave.specs.Runs.{expand, AreInOrder}
 use Rattle.slave.specs.Table.{StandsAt}
 use Rattle.slave.specs.End.{EndView, EndedAll}
@@ -125,6 +126,19 @@ pub record SweptStretch (cap : ℕ) (numbers : List (ℕ × ℕ)) (v : ℕ) (T :
   pub place : ℕ
   pub seen : slice_get numbers place ≡ Some (v, length front)
 
+-- the packets from the n-th on that were not refused, each with its place
+abbrev pub messages_from : List ReceiptSide → ℕ → List Packet → List Msg
+messages_from rs n [] = []
+messages_from rs n (p ∷ ps) = if is_named rs n then messages_from rs (n + 1) ps else record { index = n; packet = p } ∷ messages_from rs (n + 1) ps
+
+-- an output was given these messages, in order: each packet as it is, or to be flushed
+abbrev pub PassedOn : List Given → List Msg → Type 0
+PassedOn [] [] = Unit {0}
+PassedOn [] (m ∷ ms) = ⊥
+PassedOn (t ∷ T) [] = ⊥
+PassedOn (Sent i p ∷ T) (m ∷ ms) = (i ≡ m.index) × (p ≡ m.packet) × PassedOn T ms
+PassedOn (Swept i v ∷ T) (m ∷ ms) = (i ≡ m.index) × PassedOn T ms
+
 -- How a lane dealt its packets: what it was offered was given to the output or refused. The numbers are those of refusals that
 -- the worker saw, each beside how many packets it had got.
 pub record Dealt (L : List Packet) (T : List Given) (numbers : List (ℕ × ℕ)) (n : LaneNote) : Type 0 where
@@ -137,6 +151,8 @@ pub record Dealt (L : List Packet) (T : List Given) (numbers : List (ℕ × ℕ)
   pub seen : (j : ℕ) (x : ℕ × ℕ) → slice_get numbers j ≡ Some x
       → (x.0 ≤ length n.receipts.items) × ((u : ℕ) (r : ReceiptSide) → x.0 ≡ u + 1 → slice_get n.receipts.items u ≡ Some r → r.head ≤ x.1)
   pub stretches : (i v : ℕ) → SweptAt T i v → (1 ≤ v) × SweptStretch n.cap numbers v T
+  -- what was given came in order
+  pub passed : PassedOn T (messages_from n.receipts.items 0 L)
 
 -- What an end tells once its lane's refusals are entered: the refusals are new among its fates, and nothing else changes but
 -- that memory may have been wanted for them.

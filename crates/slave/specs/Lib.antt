@@ -15,6 +15,7 @@ pub mod Places
 pub mod Prepared
 pub mod Purpose
 pub mod Runs
+pub mod Schedule
 pub mod Sample
 pub mod Segments
 pub mod Stretches

@@ -7,7 +7,7 @@ use Rattle.slave.specs.Origin.{Origin}
 use Rattle.slave.specs.Given.{Given}
 use Rattle.slave.specs.AccountsAll.{SweptAt}
 use Rattle.slave.specs.LaneAccounts.{SweptStretch}
-use Rattle.slave.specs.Handed.{PassedOn}
+use Rattle.slave.specs.LaneAccounts.{PassedOn}
 use Rattle.slave.specs.Stretches.{Stretches}
 
 abbrev pub WorkersPassOn : Type 0

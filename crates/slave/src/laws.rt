@@ -5,6 +5,7 @@ ghost use Rattle.slave.specs.End.{GivenUpStaysSo, SoundNeverFails};
 ghost use Rattle.slave.specs.Handed.{HandsOver, LanesDeal};
 ghost use Rattle.slave.specs.Headline.{NoFaultNoLoss};
 ghost use Rattle.slave.specs.LaneAccounts.{LossIsBounded, UnrefusedFollow};
+ghost use Rattle.slave.specs.Schedule.{FaultsDecide};
 ghost use Rattle.slave.specs.WorkerDeals.{WorkersPassOn};
 
 /// An output whose shelf's counts of faults and wants didn't rise is closed and holds its file over all packets.
@@ -56,4 +57,10 @@ pub fn workers_pass_on()
 /// Of the packets of a lane that were not refused, each has the fate that it had in its turn.
 pub fn unrefused_follow()
     ensures { UnrefusedFollow }
+{}
+
+/// Where no packet is refused, the calls at which faults were noted decide each packet's fate, the sessions and the state: the schedule
+/// of the threads plays no part.
+pub fn faults_decide()
+    ensures { FaultsDecide }
 {}

@@ -1,9 +1,9 @@
 // What starts workers.
-ghost use Rattle.std.specs.Prelude.{◌≡◌, ◌≤◌, ◌+◌, ℕ, [], false, IfOk, IfErr, not};
+ghost use Rattle.std.specs.Prelude.{◌≡◌, ◌≤◌, ◌+◌, ℕ, [], true, false, IfOk, IfErr, not};
 ghost use Rattle.std.specs.Bool.{OnFalse};
 ghost use Rattle.std.specs.Arc.{arc_value};
 ghost use Rattle.fifo_core.specs.declared.types.FifoOptions.{FifoOptions};
-ghost use Rattle.rmx_edge.specs.Count.{Rose};
+ghost use Rattle.rmx_edge.specs.Count.{Rose, raised};
 ghost use Rattle.slave.specs.Origin.{Origin};
 ghost use Rattle.slave.specs.Fresh.{IsFresh};
 ghost use Rattle.slave.specs.Job.{view_of};
@@ -61,7 +61,11 @@ impl ThreadSpawner {
 impl Spawner for ThreadSpawner {
     ghost refused = { λ s. s.refused };
 
-    fn admits(&mut self) -> bool {
+    fn admits(&mut self) -> bool
+        ensures never_falls { self.old.refused ≤ self.new.refused }
+        ensures counted { OnFalse result (Rose self.old.refused self.new.refused) }
+        ensures exact { result ≡ true }
+    {
         true
     }
 
@@ -98,9 +102,17 @@ impl RefusingSpawner {
 }
 
 impl Spawner for RefusingSpawner {
+    ghost use Rattle.std.specs.Prelude.{◌==◌};
+    ghost use Rattle.std.specs.List.{list_any};
+
     ghost refused = { λ s. s.refused };
 
-    fn admits(&mut self) -> bool {
+    fn admits(&mut self) -> bool
+        ensures never_falls { self.old.refused ≤ self.new.refused }
+        ensures counted { OnFalse result (Rose self.old.refused self.new.refused) }
+        ensures exact { result ≡ not (list_any (λ n. n == self.old.next) self.old.starts.items) }
+        ensures numbered { (self.new.next ≡ raised self.old.next 1) × (self.new.starts ≡ self.old.starts) }
+    {
         let goes = !self.starts.contains(&self.next);
         self.next = self.next.saturating_add(1);
         if !goes {
@@ -109,7 +121,11 @@ impl Spawner for RefusingSpawner {
         goes
     }
 
-    fn count_refused(&mut self) {
+    fn count_refused(&mut self)
+        ensures never_falls { self.old.refused ≤ self.new.refused }
+        ensures counted { Rose self.old.refused self.new.refused }
+        ensures numbered { (self.new.next ≡ self.old.next) × (self.new.starts ≡ self.old.starts) }
+    {
         self.refused = self.refused.saturating_add(1);
     }
 }

@@ -223,24 +223,27 @@ fn one_file(rt: HostRuntime) -> Result<(), Fail> {
     Ok(())
 }
 
-// The third write fails and keeps two bytes; its packet is written again in a second file.
+// The third write fails and keeps two bytes; its packet is written again in a second file, also where each file is to begin
+// with a key packet: every packet of audio is one.
 #[test]
 fn a_packet_stands_in_the_next_file(rt: HostRuntime) -> Result<(), Fail> {
-    let shelf = failing(rt.alloc(), &[3], 2)?;
-    let end = written(rt.alloc(), RECOVERS, Kind::Audio, &[0, 23, 46], shelf)?;
-    assert_eq!(rt; end.state, EndState::Closed);
-    let fates = [run(Fate::Written(0), 0, 1), run(Fate::Written(1), 1, 2)];
-    assert_eq!(rt; end.fates.as_slice(), fates.as_slice());
-    let sessions = [session(0, true, false), session(1, true, true)];
-    assert_eq!(rt; end.sessions.as_slice(), sessions.as_slice());
-    let fault = FaultNote {
-        session: 0,
-        at: FaultAt::Put(1),
-        before: 0,
-        after: 1,
-    };
-    assert_eq!(rt; end.faults.as_slice(), [fault].as_slice());
-    assert_eq!(rt; end.bytes, 24);
+    for options in [RECOVERS, RESTARTS] {
+        let shelf = failing(rt.alloc(), &[3], 2)?;
+        let end = written(rt.alloc(), options, Kind::Audio, &[0, 23, 46], shelf)?;
+        assert_eq!(rt; end.state, EndState::Closed);
+        let fates = [run(Fate::Written(0), 0, 1), run(Fate::Written(1), 1, 2)];
+        assert_eq!(rt; end.fates.as_slice(), fates.as_slice());
+        let sessions = [session(0, true, false), session(1, true, true)];
+        assert_eq!(rt; end.sessions.as_slice(), sessions.as_slice());
+        let fault = FaultNote {
+            session: 0,
+            at: FaultAt::Put(1),
+            before: 0,
+            after: 1,
+        };
+        assert_eq!(rt; end.faults.as_slice(), [fault].as_slice());
+        assert_eq!(rt; end.bytes, 24);
+    }
     Ok(())
 }
 
@@ -391,42 +394,77 @@ fn every_call_fails_once(rt: HostRuntime) -> Result<(), Fail> {
 }
 
 // Whether a dead shelf leaves these fates to packets at 0, 50, 100, 150 and 200 ms.
-fn leaves(alloc: Global, options: FifoOptions, fates: &[Run]) -> Result<bool, Fail> {
+fn leaves(alloc: Global, kind: Kind, options: FifoOptions, fates: &[Run]) -> Result<bool, Fail> {
     let times = [0, 50, 100, 150, 200];
     let shelf = MemShelf::dead(alloc);
-    let end = written(alloc, options, Kind::Audio, &times, shelf)?;
+    let end = written(alloc, options, kind, &times, shelf)?;
     Ok(end.fates.as_slice() == fates && end.state == EndState::Failed)
+}
+
+fn lost(note: u64, first: u64, count: u64) -> Run {
+    run(Fate::Lost(note), first, count)
+}
+
+fn after(note: u64, first: u64, count: u64) -> Run {
+    run(Fate::AfterFailure(note), first, count)
+}
+
+fn waits(first: u64) -> Run {
+    run(Fate::KeyWait, first, 1)
 }
 
 // With a wait of 100 ms attempts come at 0, 100 and 200 ms, as far as so many are allowed.
 #[test]
 fn attempts_wait(rt: HostRuntime) -> Result<(), Fail> {
-    let waits = FifoOptions {
-        wait_ms: 100,
-        ..RECOVERS
-    };
-    let fates = [
-        run(Fate::Lost(1), 0, 2),
-        run(Fate::Lost(2), 2, 2),
-        run(Fate::Lost(3), 4, 1),
+    let all = [lost(1, 0, 2), lost(2, 2, 2), lost(3, 4, 1)];
+    let one = [lost(1, 0, 1), after(1, 1, 4)];
+    let two = [lost(1, 0, 2), lost(2, 2, 1), after(2, 3, 2)];
+    for (max_attempts, fates) in [
+        (0, all.as_slice()),
+        (1, one.as_slice()),
+        (2, two.as_slice()),
+    ] {
+        let options = FifoOptions {
+            max_attempts,
+            wait_ms: 100,
+            ..RECOVERS
+        };
+        assert!(rt;
+            leaves(rt.alloc(), Kind::Audio, options, fates)?,
+            "{max_attempts}"
+        );
+    }
+    Ok(())
+}
+
+// Where a file is to begin with a key packet, which each second one is, the others are not tried, and a wait comes before that.
+#[test]
+fn attempts_begin_with_key_packets(rt: HostRuntime) -> Result<(), Fail> {
+    let all = [
+        lost(1, 0, 1),
+        waits(1),
+        lost(2, 2, 1),
+        waits(3),
+        lost(3, 4, 1),
     ];
-    assert!(rt; leaves(rt.alloc(), waits, &fates)?);
-    let once = FifoOptions {
-        max_attempts: 1,
-        ..waits
-    };
-    let fates = [run(Fate::Lost(1), 0, 1), run(Fate::AfterFailure(1), 1, 4)];
-    assert!(rt; leaves(rt.alloc(), once, &fates)?);
-    let twice = FifoOptions {
-        max_attempts: 2,
-        ..waits
-    };
-    let fates = [
-        run(Fate::Lost(1), 0, 2),
-        run(Fate::Lost(2), 2, 1),
-        run(Fate::AfterFailure(2), 3, 2),
-    ];
-    assert!(rt; leaves(rt.alloc(), twice, &fates)?);
+    let two = [lost(1, 0, 1), waits(1), lost(2, 2, 1), after(2, 3, 2)];
+    let late = [lost(1, 0, 3), waits(3), lost(2, 4, 1)];
+    for (max_attempts, wait_ms, fates) in [
+        (0, 0, all.as_slice()),
+        (0, 40, all.as_slice()),
+        (2, 0, two.as_slice()),
+        (0, 120, late.as_slice()),
+    ] {
+        let options = FifoOptions {
+            max_attempts,
+            wait_ms,
+            ..RESTARTS
+        };
+        assert!(rt;
+            leaves(rt.alloc(), Kind::Video, options, fates)?,
+            "{max_attempts} {wait_ms}"
+        );
+    }
     Ok(())
 }
 
