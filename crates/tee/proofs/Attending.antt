@@ -1,7 +1,6 @@
 -- The outputs of a run, one after another.
 use Rattle.std.proofs.Common.{◌≡◌, ◌<◌, ◌≤◌, ◌+◌, ◌⊎◌, ℕ, suc, List, [], ◌∷◌, ◌++◌, length, take, drop, drop-cons, get_or, add-one, Bool, true, false, Option, Some, None, refl, sym, ◌∙◌, ap, subst, arith, inl, inr}
 use Rattle.std.specs.Prelude.{◌&&◌, ◌||◌}
-use Rattle.std.specs.List.{AllZip}
 use Rattle.std.proofs.lemmas.List.{take_all}
 use Rattle.fifo_core.specs.History.{History, mode_of, mode_is_dead}
 use Rattle.fifo_core.specs.Follows.{Follows}
@@ -10,22 +9,22 @@ use Rattle.rmx_edge.specs.Shelf.{ShelfState}
 use Rattle.rmx_edge.specs.declared.shelf.Shelf.{Ghosts}
 use Rattle.rmx_media.specs.declared.packet.Packet.{Packet}
 use Rattle.rmx_media.specs.declared.streams.StreamInfo.{StreamInfo}
-use Rattle.rmx_media.specs.Streams.{AreInfos}
 use Rattle.slave.specs.Job.{view_of}
 use Rattle.slave.specs.Origin.{Origin}
 use Rattle.slave.specs.Table.{Keeps, turns_from}
-use Rattle.tee.specs.Attends.{Attends, AttendsOn, GetsOf, IsStarted, choice_of}
+use Rattle.tee.specs.Attends.{Attends, AttendsOn, IsStarted, choice_of}
 use Rattle.tee.specs.Each.{Each3}
 use Rattle.tee.specs.Ends.{Stood}
 use Rattle.tee.specs.Fails.{any_both, all_of, stops}
-use Rattle.tee.specs.Route.{IsFiltered, IsPlaced}
+use Rattle.tee.specs.Route.{IsPlaced}
 use Rattle.tee.specs.Rides.{Rides, SameEnd}
-use Rattle.tee.specs.Seat.{Seat, IsInput, aborts, chosen}
+use Rattle.tee.specs.Seat.{Seat, aborts, chosen}
 use Rattle.tee.specs.Sits.{Sits, SitsOn, is_dead}
 use Rattle.tee.specs.Tracks.{Track, Here, There, StoodOn, ToldBy, TrackGoesOn, known_dead, known_deads}
 use Rattle.tee.specs.declared.output.TeeSlave.{TeeSlave}
 use Rattle.slave.specs.Task.{Task}
 use Rattle.tee.specs.declared.sender.Sender.{Sender}
+use Rattle.tee.specs.declared.filter.Filtered.{Filtered}
 use Rattle.tee.specs.declared.outlet.Outlet.{Outlet}
 use Rattle.tee.specs.declared.outlet.Outlet.TheVariants as outlet
 use Rattle.tee.proofs.Over.{alive_by, dead_by, over_by}
@@ -59,31 +58,16 @@ track_twice n s (There told) (There now) (There then) x y = told_twice n told no
 abbrev Left : List Seat → List Track → Bool → Bool
 Left ss ts all = any_both (aborts ss) (known_deads ss ts) || (all && all_of (known_deads ss ts))
 
--- that is what an output gets of a packet, whatever its seat
-abbrev pub IsFor : {S G : Type 0} {ghosts : Ghosts S} → Packet → Outlet S G ghosts → Option Packet → Type 0
-IsFor p o left = (infos : List StreamInfo) (seat : Seat) → AreInfos infos → IsPlaced infos seat (choice_of o) → IsInput infos p → IsFiltered seat p left
-
 -- what a job says of itself
 abbrev pub JobSays : {S : Type 0} {ghosts : Ghosts S} → (S → ShelfState) → TeeSlave S ghosts → Bool → Type 0
 JobSays state slave dead = (g : Origin) (o : FifoOptions) (L : List Packet) (k : Keeps g o L (view_of state slave.job)) → dead ≡ mode_is_dead (mode_of o k.history)
 
 module _ {S G : Type 0} {ghosts : Ghosts S} (state : S → ShelfState) (infos : List StreamInfo) (given : List Packet) (asked : ℕ) where
   pub placed_at : (s : Seat) (t : Track) (o : Outlet S G ghosts) → Attends state infos given asked false s t o → IsPlaced infos s (choice_of o)
-  placed_at s (Here h) (outlet.Here slave inline) a = a.0.placed
+  placed_at s (Here h) (outlet.Here slave inline left) a = a.0.placed
   placed_at s (Here h) (outlet.There sender running) a = absurd a
-  placed_at s (There told) (outlet.Here slave inline) a = absurd a
+  placed_at s (There told) (outlet.Here slave inline left) a = absurd a
   placed_at s (There told) (outlet.There sender running) a = a.0.placed
-
-  pub each_gets : (p : Packet) (ss : List Seat) (ts : List Track) (os : List (Outlet S G ghosts)) (ls : List (Option Packet)) → AreInfos infos → IsInput infos p
-      → Each3 (Attends state infos given asked false) ss ts os → AllZip (IsFor p) os ls → AllZip (GetsOf p) ss ls
-  each_gets p [] [] [] [] are i a z = tt
-  each_gets p [] [] [] (l ∷ ls) are i a z = absurd z
-  each_gets p [] [] (o ∷ os) ls are i a z = absurd a
-  each_gets p [] (t ∷ ts) os ls are i a z = absurd a
-  each_gets p (s ∷ ss) [] os ls are i a z = absurd a
-  each_gets p (s ∷ ss) (t ∷ ts) [] ls are i a z = absurd a
-  each_gets p (s ∷ ss) (t ∷ ts) (o ∷ os) [] are i a z = absurd z
-  each_gets p (s ∷ ss) (t ∷ ts) (o ∷ os) (l ∷ ls) are i a z = (z.0 infos s are (placed_at s t o a.0) i, each_gets p ss ts os ls are i a.1 z.1)
 
   -- these outputs are left to be asked, and all asked before were given up or not
   pub record LeftTo (seats : List Seat) (tracks : List Track) (all : Bool) (rest : List (Outlet S G ghosts)) : Type 0 where
@@ -164,26 +148,26 @@ module _ {S G : Type 0} {ghosts : Ghosts S} (state : S → ShelfState) (infos : 
       let next : drop k os ≡ o ∷ drop (k + 1) os = rw add-one (drop-cons os k o lt ∙ ap (λ (x : Outlet S G ghosts). x ∷ drop (suc k) os) (sym is)) in
       subst (λ (rest : List (Outlet S G ghosts)). LeftTo ss ts all rest) next st
 
-pub here_says : {S : Type 0} {ghosts : Ghosts S} (G : Type 0) (state : S → ShelfState) (infos : List StreamInfo) (given : List Packet) (asked : ℕ) (s : Seat) (t : Track) (slave : TeeSlave S ghosts) (inline dead : Bool) → JobSays state slave dead → Attends {S = S} {G = G} {ghosts = ghosts} state infos given asked false s t (outlet.Here slave inline) → dead ≡ known_dead s t
-here_says G state infos given asked s (Here h) slave inline dead says a = says s.origin s.slave.fifo (chosen s given) a.0.keeps ∙ ap (λ (x : History). is_dead s x) a.0.history_is
-here_says G state infos given asked s (There told) slave inline dead says a = absurd a
+pub here_says : {S : Type 0} {ghosts : Ghosts S} (G : Type 0) (state : S → ShelfState) (infos : List StreamInfo) (given : List Packet) (asked : ℕ) (s : Seat) (t : Track) (slave : TeeSlave S ghosts) (inline : Bool) (left : Filtered) (dead : Bool) → JobSays state slave dead → Attends {S = S} {G = G} {ghosts = ghosts} state infos given asked false s t (outlet.Here slave inline left) → dead ≡ known_dead s t
+here_says G state infos given asked s (Here h) slave inline left dead says a = says s.origin s.slave.fifo (chosen s given) a.0.keeps ∙ ap (λ (x : History). is_dead s x) a.0.history_is
+here_says G state infos given asked s (There told) slave inline left dead says a = absurd a
 
-pub here_sits : {S : Type 0} {ghosts : Ghosts S} (G : Type 0) (state : S → ShelfState) (infos : List StreamInfo) (given : List Packet) (asked : ℕ) (s : Seat) (t : Track) (slave : TeeSlave S ghosts) (inline : Bool) → Attends {S = S} {G = G} {ghosts = ghosts} state infos given asked false s t (outlet.Here slave inline) → (h : History) × Sits state infos given s h slave
-here_sits G state infos given asked s (Here h) slave inline a = (h, a.0)
-here_sits G state infos given asked s (There told) slave inline a = absurd a
+pub here_sits : {S : Type 0} {ghosts : Ghosts S} (G : Type 0) (state : S → ShelfState) (infos : List StreamInfo) (given : List Packet) (asked : ℕ) (s : Seat) (t : Track) (slave : TeeSlave S ghosts) (inline : Bool) (left : Filtered) → Attends {S = S} {G = G} {ghosts = ghosts} state infos given asked false s t (outlet.Here slave inline left) → (h : History) × Sits state infos given s h slave
+here_sits G state infos given asked s (Here h) slave inline left a = (h, a.0)
+here_sits G state infos given asked s (There told) slave inline left a = absurd a
 
-pub here_on : {S : Type 0} {ghosts : Ghosts S} (G : Type 0) (state : S → ShelfState) (infos : List StreamInfo) (given : List Packet) (asked : ℕ) (n : ℕ) (s : Seat) (t : Track) (slave : TeeSlave S ghosts) (inline : Bool) → Attends {S = S} {G = G} {ghosts = ghosts} state infos given asked false s t (outlet.Here slave inline)
-    → AttendsOn {S = S} {G = G} {ghosts = ghosts} state infos given n n s t (outlet.Here slave inline)
-here_on G state infos given asked n s (Here h) slave inline a = (Here h, a, record { later = []; goes_on = refl; stays_dead = λ d. d })
-here_on G state infos given asked n s (There told) slave inline a = absurd a
+pub here_on : {S : Type 0} {ghosts : Ghosts S} (G : Type 0) (state : S → ShelfState) (infos : List StreamInfo) (given : List Packet) (asked : ℕ) (n : ℕ) (s : Seat) (t : Track) (slave : TeeSlave S ghosts) (inline : Bool) (left : Filtered) → Attends {S = S} {G = G} {ghosts = ghosts} state infos given asked false s t (outlet.Here slave inline left)
+    → AttendsOn {S = S} {G = G} {ghosts = ghosts} state infos given n n s t (outlet.Here slave inline left)
+here_on G state infos given asked n s (Here h) slave inline left a = (Here h, a, record { later = []; goes_on = refl; stays_dead = λ d. d })
+here_on G state infos given asked n s (There told) slave inline left a = absurd a
 
-pub here_gave : {S : Type 0} {ghosts : Ghosts S} (G : Type 0) (state : S → ShelfState) (infos : List StreamInfo) (given : List Packet) (asked : ℕ) (n : ℕ) (p : Packet) (s : Seat) (t : Track) (slave new : TeeSlave S ghosts) (inline : Bool) → Attends {S = S} {G = G} {ghosts = ghosts} state infos given asked false s t (outlet.Here slave inline)
+pub here_gave : {S : Type 0} {ghosts : Ghosts S} (G : Type 0) (state : S → ShelfState) (infos : List StreamInfo) (given : List Packet) (asked : ℕ) (n : ℕ) (p : Packet) (s : Seat) (t : Track) (slave new : TeeSlave S ghosts) (inline : Bool) (left after : Filtered) → Attends {S = S} {G = G} {ghosts = ghosts} state infos given asked false s t (outlet.Here slave inline left)
     → ((h : History) → Sits state infos given s h slave → SitsOn state infos (given ++ p ∷ []) s h new)
-    → AttendsOn {S = S} {G = G} {ghosts = ghosts} state infos (given ++ p ∷ []) asked n s t (outlet.Here new inline)
-here_gave G state infos given asked n p s (Here h) slave new inline a f =
+    → AttendsOn {S = S} {G = G} {ghosts = ghosts} state infos (given ++ p ∷ []) asked n s t (outlet.Here new inline after)
+here_gave G state infos given asked n p s (Here h) slave new inline left after a f =
     let on = f h a.0 in
     (Here on.history, (on.sits, a.1), record { later = on.later; goes_on = on.goes_on; stays_dead = on.stays_dead })
-here_gave G state infos given asked n p s (There told) slave new inline a f = absurd a
+here_gave G state infos given asked n p s (There told) slave new inline left after a f = absurd a
 
 started_still : (s : Seat) (old new : Sender) (running : Task) → SameEnd old new → IsStarted s old running → IsStarted s new running
 started_still s old new running same st = record { fresh = st.fresh; ring = st.ring ∙ sym same.ring; about = st.about ∙ sym same.about }
@@ -224,9 +208,9 @@ stand_all state infos given u [] [] (o ∷ os) e a = absurd a
 stand_all state infos given u [] (t ∷ ts) os e a = absurd a
 stand_all state infos given u (s ∷ ss) [] os e a = absurd a
 stand_all state infos given u (s ∷ ss) (t ∷ ts) [] e a = absurd a
-stand_all state infos given u (s ∷ ss) (Here h ∷ ts) (outlet.Here slave inline ∷ os) e a = (stands_here state infos given u s h slave e a.0.0, stand_all state infos given u ss ts os e a.1)
+stand_all state infos given u (s ∷ ss) (Here h ∷ ts) (outlet.Here slave inline left ∷ os) e a = (stands_here state infos given u s h slave e a.0.0, stand_all state infos given u ss ts os e a.1)
 stand_all state infos given u (s ∷ ss) (Here h ∷ ts) (outlet.There sender running ∷ os) e a = absurd a.0
-stand_all state infos given u (s ∷ ss) (There told ∷ ts) (outlet.Here slave inline ∷ os) e a = absurd a.0
+stand_all state infos given u (s ∷ ss) (There told ∷ ts) (outlet.Here slave inline left ∷ os) e a = absurd a.0
 stand_all state infos given u (s ∷ ss) (There told ∷ ts) (outlet.There sender running ∷ os) e a = (known_now told u a.0.0.within, stand_all state infos given u ss ts os e a.1)
 
 -- an output with a thread stands as it did
@@ -236,3 +220,19 @@ pub there_same : {S : Type 0} (G : Type 0) (ghosts : Ghosts S) (state : S → Sh
     → Attends {S = S} {G = G} {ghosts = ghosts} state infos given asked false s t (outlet.There new running)
 there_same G ghosts state infos given asked s (Here h) old new running a same f = absurd a
 there_same G ghosts state infos given asked s (There told) old new running a same f = (f told a.0, started_still s old new running same a.1, same.closed ∙ a.2)
+
+-- an output that the reader writes stands as it did, whatever is left of a packet for it
+pub here_same : {S : Type 0} {ghosts : Ghosts S} (G : Type 0) (state : S → ShelfState) (infos : List StreamInfo) (given : List Packet) (asked : ℕ) (s : Seat) (t : Track) (slave : TeeSlave S ghosts) (inline : Bool) (left after : Filtered)
+    → Attends {S = S} {G = G} {ghosts = ghosts} state infos given asked false s t (outlet.Here slave inline left) → Attends {S = S} {G = G} {ghosts = ghosts} state infos given asked false s t (outlet.Here slave inline after)
+here_same G state infos given asked s (Here h) slave inline left after a = a
+here_same G state infos given asked s (There told) slave inline left after a = absurd a
+
+pub here_placed : {S : Type 0} {ghosts : Ghosts S} (G : Type 0) (state : S → ShelfState) (infos : List StreamInfo) (given : List Packet) (asked : ℕ) (s : Seat) (t : Track) (slave : TeeSlave S ghosts) (inline : Bool) (left : Filtered)
+    → Attends {S = S} {G = G} {ghosts = ghosts} state infos given asked false s t (outlet.Here slave inline left) → IsPlaced infos s slave.choice
+here_placed G state infos given asked s (Here h) slave inline left a = a.0.placed
+here_placed G state infos given asked s (There told) slave inline left a = absurd a
+
+pub there_placed : {S : Type 0} (G : Type 0) (ghosts : Ghosts S) (state : S → ShelfState) (infos : List StreamInfo) (given : List Packet) (asked : ℕ) (s : Seat) (t : Track) (sender : Sender) (running : Task)
+    → Attends {S = S} {G = G} {ghosts = ghosts} state infos given asked false s t (outlet.There sender running) → IsPlaced infos s sender.choice
+there_placed G ghosts state infos given asked s (Here h) sender running a = absurd a
+there_placed G ghosts state infos given asked s (There told) sender running a = a.0.placed

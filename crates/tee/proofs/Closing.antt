@@ -21,6 +21,7 @@ use Rattle.tee.specs.RunKeeps.{KeepsRun, dead_in, inlined}
 use Rattle.tee.specs.Seat.{Seat, aborts, chosen}
 use Rattle.tee.specs.Sits.{EndsAt, Sits}
 use Rattle.tee.specs.Tracks.{Track, Here, There, is_there, known_dead, known_deads, one_if, theres}
+use Rattle.tee.specs.declared.filter.Filtered.{Filtered}
 use Rattle.tee.specs.declared.outlet.Outlet.{Outlet}
 use Rattle.tee.specs.declared.outlet.Outlet.TheVariants as outlet
 use Rattle.tee.specs.declared.output.TeeSlave.{TeeSlave}
@@ -59,15 +60,15 @@ pub there_open : {S : Type 0} (G : Type 0) (ghosts : Ghosts S) (state : S → Sh
 there_open G ghosts state infos given asked s (Here h) sender running a = absurd a
 there_open G ghosts state infos given asked s (There told) sender running a = a.2
 
-pub here_shut : {S : Type 0} {ghosts : Ghosts S} (G : Type 0) (state : S → ShelfState) (infos : List StreamInfo) (given : List Packet) (asked : ℕ) (s : Seat) (t : Track) (slave : TeeSlave S ghosts) (inline : Bool)
-    → Attends {S = S} {G = G} {ghosts = ghosts} state infos given asked false s t (outlet.Here slave inline) → Attends {S = S} {G = G} {ghosts = ghosts} state infos given asked true s t (outlet.Here slave inline)
-here_shut G state infos given asked s (Here h) slave inline a = a
-here_shut G state infos given asked s (There told) slave inline a = absurd a
+pub here_shut : {S : Type 0} {ghosts : Ghosts S} (G : Type 0) (state : S → ShelfState) (infos : List StreamInfo) (given : List Packet) (asked : ℕ) (s : Seat) (t : Track) (slave : TeeSlave S ghosts) (inline : Bool) (left : Filtered)
+    → Attends {S = S} {G = G} {ghosts = ghosts} state infos given asked false s t (outlet.Here slave inline left) → Attends {S = S} {G = G} {ghosts = ghosts} state infos given asked true s t (outlet.Here slave inline left)
+here_shut G state infos given asked s (Here h) slave inline left a = a
+here_shut G state infos given asked s (There told) slave inline left a = absurd a
 
-pub here_sat : {S : Type 0} {ghosts : Ghosts S} (G : Type 0) (state : S → ShelfState) (infos : List StreamInfo) (given : List Packet) (asked : ℕ) (s : Seat) (t : Track) (slave : TeeSlave S ghosts) (inline : Bool)
-    → Attends {S = S} {G = G} {ghosts = ghosts} state infos given asked true s t (outlet.Here slave inline) → (h : History) × Sits state infos given s h slave
-here_sat G state infos given asked s (Here h) slave inline a = (h, a.0)
-here_sat G state infos given asked s (There told) slave inline a = absurd a
+pub here_sat : {S : Type 0} {ghosts : Ghosts S} (G : Type 0) (state : S → ShelfState) (infos : List StreamInfo) (given : List Packet) (asked : ℕ) (s : Seat) (t : Track) (slave : TeeSlave S ghosts) (inline : Bool) (left : Filtered)
+    → Attends {S = S} {G = G} {ghosts = ghosts} state infos given asked true s t (outlet.Here slave inline left) → (h : History) × Sits state infos given s h slave
+here_sat G state infos given asked s (Here h) slave inline left a = (h, a.0)
+here_sat G state infos given asked s (There told) slave inline left a = absurd a
 
 pub there_rode : {S : Type 0} (G : Type 0) (ghosts : Ghosts S) (state : S → ShelfState) (infos : List StreamInfo) (given : List Packet) (asked : ℕ) (s : Seat) (t : Track) (sender : Sender) (running : Task)
     → Attends {S = S} {G = G} {ghosts = ghosts} state infos given asked true s t (outlet.There sender running) → (told : Option ℕ) × Rides infos given asked s told sender × IsStarted s sender running
@@ -75,11 +76,11 @@ there_rode G ghosts state infos given asked s (Here h) sender running a = absurd
 there_rode G ghosts state infos given asked s (There told) sender running a = (told, a.0, a.1)
 
 -- an output that the reader wrote ends
-pub here_ends : {S : Type 0} {ghosts : Ghosts S} (G : Type 0) (state : S → ShelfState) (infos : List StreamInfo) (given : List Packet) (asked : ℕ) (s : Seat) (t : Track) (slave : TeeSlave S ghosts) (inline : Bool)
-    (old new : SlaveEnd S) → Attends {S = S} {G = G} {ghosts = ghosts} state infos given asked true s t (outlet.Here slave inline)
+pub here_ends : {S : Type 0} {ghosts : Ghosts S} (G : Type 0) (state : S → ShelfState) (infos : List StreamInfo) (given : List Packet) (asked : ℕ) (s : Seat) (t : Track) (slave : TeeSlave S ghosts) (inline : Bool) (left : Filtered)
+    (old new : SlaveEnd S) → Attends {S = S} {G = G} {ghosts = ghosts} state infos given asked true s t (outlet.Here slave inline left)
     → ((h : History) → Sits state infos given s h slave → EndsAt state given s h old)
     → new ≡ record old { inline = inline } → EndsAs state given s t new
-here_ends G state infos given asked s (Here h) slave inline old new a f e =
+here_ends G state infos given asked s (Here h) slave inline left old new a f e =
     let at = f h a.0 in
     let was : old.inline ≡ false = at.ended.0.inline in
     let view : record (end_view state new) { inline = false } ≡ end_view state old = rw (e, ← was) refl in
@@ -87,7 +88,7 @@ here_ends G state infos given asked s (Here h) slave inline old new a f e =
       on = record { ended = subst (λ (v : EndView). EndedBy s.origin s.slave.fifo (chosen s given) h v) (sym view) at.ended; inline = rw e a.1 };
       given_up = λ d. rw e (at.given_up d);
     }
-here_ends G state infos given asked s (There told) slave inline old new a f e = absurd a
+here_ends G state infos given asked s (There told) slave inline left old new a f e = absurd a
 
 pub there_ends : {S : Type 0} (G : Type 0) (ghosts : Ghosts S) (state : S → ShelfState) (infos : List StreamInfo) (given : List Packet) (s : Seat) (t : Track) (sender : Sender) (running : Task) (e : SlaveEnd S)
     → Attends {S = S} {G = G} {ghosts = ghosts} state infos given (length given) true s t (outlet.There sender running)

@@ -13,8 +13,8 @@ use Rattle.slave.specs.declared.records.LaneNote.{LaneNote}
 use Rattle.slave.specs.declared.run.WorkEnd.{WorkEnd}
 use Rattle.slave.specs.End.{EndView, EndedAll, IsUnclosed, end_view}
 use Rattle.slave.specs.Given.{Given}
-use Rattle.slave.specs.Handed.{Handed, PassedOn}
-use Rattle.slave.specs.LaneAccounts.{AccountsLane, AddsLane, Dealt}
+use Rattle.slave.specs.Handed.{Handed}
+use Rattle.slave.specs.LaneAccounts.{AccountsLane, AddsLane, Dealt, PassedOn}
 use Rattle.slave.specs.Origin.{Origin}
 use Rattle.slave.specs.Purpose.{IsFor}
 use Rattle.slave.specs.Task.{Task}

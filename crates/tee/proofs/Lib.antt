@@ -6,6 +6,7 @@ pub mod Slots
 pub mod Over
 pub mod Watching
 pub mod Finish
+pub mod Passing
 pub mod Opening
 pub mod Attending
 pub mod Closing
@@ -18,3 +19,4 @@ pub mod RunFed
 pub mod Swept
 pub mod RunOpening
 pub mod LaneMaking
+pub mod Schedules

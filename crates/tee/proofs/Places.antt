@@ -1,5 +1,5 @@
 -- Three lists, place by place, and loops over them.
-use Rattle.std.proofs.Common.{◌≡◌, ℕ, zero, suc, ◌<◌, ◌+◌, List, [], ◌∷◌, ◌++◌, length, get_or, set, drop, add-one, ◌≤◌, refl, sym, arith}
+use Rattle.std.proofs.Common.{◌≡◌, ℕ, zero, suc, ◌<◌, ◌+◌, List, [], ◌∷◌, ◌++◌, length, get_or, set, add-one, refl, arith}
 use Rattle.std.specs.List.{AllZip}
 use Rattle.tee.specs.Each.{Each3, Between3}
 
@@ -66,57 +66,6 @@ module _ {A B C : Type 0} (P Q : A → B → C → Type 0) where
   all_done (a ∷ us) (b ∷ bs) (c ∷ cs) zero e same = absurd (omega arith)
   all_done (a ∷ us) (b ∷ bs) (c ∷ cs) (suc k) e same = (e.0, all_done us bs cs k e.1 (omega arith))
 
--- loops that also go through a list of what belongs to the first third
-module _ {A B C D : Type 0} (P Q : A → B → C → Type 0) (R : A → D → Type 0) where
-  all_with : (us : List A) (bs : List B) (cs : List C) (ds : List D) (k : ℕ) (d : C) (x : D) → Each3 P us bs cs → AllZip R us ds → k < length cs → (a : A) × (b : B) × P a b (get_or cs k d) × R a (get_or ds k x)
-  all_with [] [] [] ds k d x e z lt = absurd (omega arith)
-  all_with [] [] (c ∷ cs) ds k d x e z lt = absurd e
-  all_with [] (b ∷ bs) cs ds k d x e z lt = absurd e
-  all_with (a ∷ us) [] cs ds k d x e z lt = absurd e
-  all_with (a ∷ us) (b ∷ bs) [] ds k d x e z lt = absurd e
-  all_with (a ∷ us) (b ∷ bs) (c ∷ cs) [] k d x e z lt = absurd z
-  all_with (a ∷ us) (b ∷ bs) (c ∷ cs) (y ∷ ds) zero d x e z lt = (a, b, e.0, z.0)
-  all_with (a ∷ us) (b ∷ bs) (c ∷ cs) (y ∷ ds) (suc k) d x e z lt = all_with us bs cs ds k d x e.1 z.1 (omega arith)
-
-  pub next_with : (us : List A) (bs : List B) (cs : List C) (ds : List D) (k : ℕ) (d : C) (x : D) → Between3 P Q k us bs cs → AllZip R us ds → k < length cs
-      → (a : A) × (b : B) × P a b (get_or cs k d) × R a (get_or ds k x)
-  next_with us bs cs ds zero d x e z lt = all_with us bs cs ds zero d x e z lt
-  next_with [] [] [] ds (suc k) d x e z lt = absurd (omega arith)
-  next_with [] [] (c ∷ cs) ds (suc k) d x e z lt = absurd e
-  next_with [] (b ∷ bs) cs ds (suc k) d x e z lt = absurd e
-  next_with (a ∷ us) [] cs ds (suc k) d x e z lt = absurd e
-  next_with (a ∷ us) (b ∷ bs) [] ds (suc k) d x e z lt = absurd e
-  next_with (a ∷ us) (b ∷ bs) (c ∷ cs) [] (suc k) d x e z lt = absurd z
-  next_with (a ∷ us) (b ∷ bs) (c ∷ cs) (y ∷ ds) (suc k) d x e z lt = next_with us bs cs ds k d x e.1 z.1 (omega arith)
-
-  pub set_with : (us : List A) (bs : List B) (cs : List C) (ds : List D) (k : ℕ) (d new : C) (x : D) → Between3 P Q k us bs cs → AllZip R us ds → k < length cs
-      → ((a : A) (b : B) → P a b (get_or cs k d) → R a (get_or ds k x) → Q a b new) → Between3 P Q (suc k) us bs (set cs k new)
-  set_with [] [] [] ds k d new x e z lt f = absurd (omega arith)
-  set_with [] [] (c ∷ cs) ds zero d new x e z lt f = absurd e
-  set_with [] [] (c ∷ cs) ds (suc k) d new x e z lt f = absurd e
-  set_with [] (b ∷ bs) cs ds zero d new x e z lt f = absurd e
-  set_with [] (b ∷ bs) cs ds (suc k) d new x e z lt f = absurd e
-  set_with (a ∷ us) [] cs ds zero d new x e z lt f = absurd e
-  set_with (a ∷ us) [] cs ds (suc k) d new x e z lt f = absurd e
-  set_with (a ∷ us) (b ∷ bs) [] ds k d new x e z lt f = absurd (omega arith)
-  set_with (a ∷ us) (b ∷ bs) (c ∷ cs) [] k d new x e z lt f = absurd z
-  set_with (a ∷ us) (b ∷ bs) (c ∷ cs) (y ∷ ds) zero d new x e z lt f = (f a b e.0 z.0, e.1)
-  set_with (a ∷ us) (b ∷ bs) (c ∷ cs) (y ∷ ds) (suc k) d new x e z lt f = (e.0, set_with us bs cs ds k d new x e.1 z.1 (omega arith) f)
-
-  pub set_next_with : (us : List A) (bs : List B) (cs : List C) (ds : List D) (k : ℕ) (d new : C) (x : D) → Between3 P Q k us bs cs → AllZip R us ds → k < length cs
-      → ((a : A) (b : B) → P a b (get_or cs k d) → R a (get_or ds k x) → Q a b new) → Between3 P Q (k + 1) us bs (set cs k new)
-  set_next_with us bs cs ds k d new x e z lt f = rw add-one (set_with us bs cs ds k d new x e z lt f)
-
-  pub as_many_with : (us : List A) (bs : List B) (cs : List C) (ds : List D) → Each3 P us bs cs → AllZip R us ds → length ds ≡ length cs
-  as_many_with [] [] [] [] e z = refl
-  as_many_with [] [] [] (y ∷ ds) e z = absurd z
-  as_many_with [] [] (c ∷ cs) ds e z = absurd e
-  as_many_with [] (b ∷ bs) cs ds e z = absurd e
-  as_many_with (a ∷ us) [] cs ds e z = absurd e
-  as_many_with (a ∷ us) (b ∷ bs) [] ds e z = absurd e
-  as_many_with (a ∷ us) (b ∷ bs) (c ∷ cs) [] e z = absurd z
-  as_many_with (a ∷ us) (b ∷ bs) (c ∷ cs) (y ∷ ds) e z = omega (arith, as_many_with us bs cs ds e.1 z.1)
-
 -- one place may change
 pub each_set : {A B C : Type 0} (P : A → B → C → Type 0) (us : List A) (bs : List B) (cs : List C) (k : ℕ) (d new : C) → Each3 P us bs cs → k < length cs
     → ((a : A) (b : B) → P a b (get_or cs k d) → P a b new) → Each3 P us bs (set cs k new)
@@ -127,32 +76,6 @@ each_set P (a ∷ us) [] cs k d new e lt f = absurd e
 each_set P (a ∷ us) (b ∷ bs) [] k d new e lt f = absurd e
 each_set P (a ∷ us) (b ∷ bs) (c ∷ cs) zero d new e lt f = (f a b e.0, e.1)
 each_set P (a ∷ us) (b ∷ bs) (c ∷ cs) (suc k) d new e lt f = (e.0, each_set P us bs cs k d new e.1 (omega arith) f)
-
--- the next item of a list
-pub none_dropped : {X : Type 0} (xs : List X) (k : ℕ) → drop k xs ≡ [] → length xs ≤ k
-none_dropped [] k e = omega arith
-none_dropped (x ∷ xs) zero e = absurd cc
-none_dropped (x ∷ xs) (suc k) e = let r = none_dropped xs k e in omega (arith, r)
-
-next_dropped : {X : Type 0} (xs : List X) (k : ℕ) (x : X) (rest : List X) → drop k xs ≡ x ∷ rest → (get_or xs k x ≡ x) × (drop (suc k) xs ≡ rest)
-next_dropped [] zero x rest e = absurd cc
-next_dropped [] (suc k) x rest e = absurd cc
-next_dropped (y ∷ xs) zero x rest e = (cc, cc)
-next_dropped (y ∷ xs) (suc k) x rest e = next_dropped xs k x rest e
-
-pub item_next : {X : Type 0} (xs : List X) (k : ℕ) (x : X) (rest : List X) → drop k xs ≡ x ∷ rest → (get_or xs k x ≡ x) × (rest ≡ drop (k + 1) xs)
-item_next xs k x rest e = let n = next_dropped xs k x rest e in (n.0, rw add-one (sym n.1))
-
--- the first k places may be no more than the others
-pub between_weaker : {A B C : Type 0} (P Q : A → B → C → Type 0) (f : (a : A) (b : B) (c : C) → Q a b c → P a b c) (k : ℕ) (us : List A) (bs : List B) (cs : List C)
-    → Between3 P Q k us bs cs → Each3 P us bs cs
-between_weaker P Q f zero us bs cs e = e
-between_weaker P Q f (suc k) [] [] [] e = tt
-between_weaker P Q f (suc k) [] [] (c ∷ cs) e = absurd e
-between_weaker P Q f (suc k) [] (b ∷ bs) cs e = absurd e
-between_weaker P Q f (suc k) (a ∷ us) [] cs e = absurd e
-between_weaker P Q f (suc k) (a ∷ us) (b ∷ bs) [] e = absurd e
-between_weaker P Q f (suc k) (a ∷ us) (b ∷ bs) (c ∷ cs) e = (f a b c e.0, between_weaker P Q f k us bs cs e.1)
 
 module _ {A B C : Type 0} (P : A → B → C → Type 0) where
   -- one more place

@@ -142,3 +142,21 @@ rides_asked infos given asked seat told old new said r lane receipts choice_is c
       },
       told_by told (asked + 1) said,
     )
+
+-- what it keeps of a packet is no part of that
+pub rides_as : (infos : List StreamInfo) (given : List Packet) (asked : ℕ) (seat : Seat) (told : Option ℕ) (old new : Sender) → Rides infos given asked seat told old
+    → new.lane ≡ old.lane → new.giver ≡ old.giver → new.receipts.items ≡ old.receipts.items → new.choice ≡ old.choice → new.count ≡ old.count → new.cap ≡ old.cap → new.drops ≡ old.drops → new.failed ≡ old.failed
+    → Rides infos given asked seat told new
+rides_as infos given asked seat told old new r lane giver receipts choice_is count cap drops failed = record {
+  placed = rw choice_is r.placed;
+  threaded = r.threaded;
+  lane = rw (lane, giver) r.lane;
+  offered = rw (giver, receipts) r.offered;
+  count = count ∙ r.count;
+  cap = cap ∙ r.cap;
+  drops = drops ∙ r.drops;
+  asked_is = rw giver r.asked_is;
+  told_is = rw giver r.told_is;
+  knows = failed ∙ r.knows;
+  within = r.within;
+}

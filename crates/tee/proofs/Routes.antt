@@ -1,5 +1,5 @@
 -- What an output leaves of a packet fits its files.
-use Rattle.std.proofs.Common.{◌≡◌, ◌<◌, ◌≤◌, List, [], length, get_or, Bool, true, false, cond, Option, Some, None, Result, Ok, Err, refl, sym, ◌∙◌, ap, subst, arith}
+use Rattle.std.proofs.Common.{◌≡◌, ◌<◌, ◌≤◌, ℕ, zero, suc, List, [], length, get_or, Bool, true, false, cond, Option, Some, None, Result, Ok, Err, refl, sym, ◌∙◌, ap, subst, arith}
 use Rattle.std.specs.Prelude.{IfOk}
 use Rattle.std.specs.List.{list_any}
 use Rattle.std.specs.Option.{option_map, option_and_then}
@@ -25,12 +25,12 @@ use Rattle.rmx_media.specs.Config.{kind_of}
 use Rattle.rmx_media.specs.Fits.{Fits, Suits}
 use Rattle.rmx_media.specs.Streams.{AreInfos, IsSound, kind_in}
 use Rattle.slave.specs.Table.{Takes}
-use Rattle.tee.specs.Choice.{all_streams, takes_kind, file_format}
-use Rattle.tee.specs.Route.{IsRoute, IsLeft, IsPlaced, IsFiltered}
+use Rattle.tee.specs.Choice.{all_streams, choice, takes_kind, file_format}
+use Rattle.tee.specs.Route.{IsRoute, IsLeft, IsPlaced, IsFiltered, filters_in, is_through, is_whole, passes_in, route_in}
 use Rattle.tee.specs.Seat.{Seat, IsInput}
 use Rattle.tee.specs.declared.choice.Choice.{Choice}
 use Rattle.tee.specs.declared.choice.Route.{Route}
-use Rattle.tee.specs.declared.choice.Route.TheVariants.{Whole}
+use Rattle.tee.specs.declared.choice.Route.TheVariants.{Skip, Whole, Through}
 use Rattle.tee.proofs.Choices.{is_one_of, keepers_for, some_at, sound_at, taken_from}
 
 unfiltered_by : (p : Packet) (c : Config) → result_by [] p c ≡ Some p
@@ -159,6 +159,38 @@ pub filtered_at : (infos : List StreamInfo) (seat : Seat) (c : Choice) (p : Pack
     → IsLeft seat.origin.streams.streams.items seat.slave.chains i.streams p left → IsFiltered seat p left
 filtered_at infos seat c p None at i l = record { is_choice = l.is_choice; fits = tt }
 filtered_at infos seat c p (Some q) at i l = record { is_choice = l.is_choice; fits = fits_at infos seat c p q at i l }
+
+route_at : (streams : List MuxStream) (chains : List (Spec × List Filter)) (c : Choice) (n : ℕ) → n < 2 → IsRoute streams chains 0 c.first → IsRoute streams chains 1 c.second
+    → IsRoute streams chains n (route_in c n)
+route_at streams chains c zero lt first second = first
+route_at streams chains c (suc zero) lt first second = second
+route_at streams chains c (suc (suc n)) lt first second = absurd (omega arith)
+
+whole_by : (r : Route) → is_whole r ≡ true → r ≡ Whole
+whole_by Skip e = absurd cc
+whole_by Whole e = refl
+whole_by (Through chain) e = absurd cc
+
+skip_by : (r : Route) → is_whole r ≡ false → is_through r ≡ false → r ≡ Skip
+skip_by Skip e f = refl
+skip_by Whole e f = absurd cc
+skip_by (Through chain) e f = absurd cc
+
+-- an output that takes the packets of a stream as they are
+pub passed_whole : (infos : List StreamInfo) (seat : Seat) (c : Choice) (p : Packet) → p.stream < 2 → IsPlaced infos seat c → IsInput infos p → passes_in c p.stream ≡ true → IsFiltered seat p (Some p)
+passed_whole infos seat c p lt at i e =
+    let streams = seat.origin.streams.streams.items in
+    filtered_at infos seat c p (Some p) at i
+    (whole_left streams seat.slave.chains i.streams p (route_in c p.stream) (whole_by (route_in c p.stream) e) (route_at streams seat.slave.chains c p.stream lt at.first at.second) i.fits)
+
+-- one that takes none of them
+pub passed_over : (infos : List StreamInfo) (seat : Seat) (c : Choice) (p : Packet) → p.stream < 2 → IsPlaced infos seat c → passes_in c p.stream ≡ false → filters_in c p.stream ≡ false
+    → None ≡ choice seat.origin.streams.streams.items seat.slave.chains p
+passed_over infos seat c p lt at e f =
+    let streams = seat.origin.streams.streams.items in
+    let is : IsRoute streams seat.slave.chains p.stream Skip
+    = subst (λ (r : Route). IsRoute streams seat.slave.chains p.stream r) (skip_by (route_in c p.stream) e f) (route_at streams seat.slave.chains c p.stream lt at.first at.second) in
+    rw is refl
 
 pub if_ok : {A E : Type 0} (r : Result A E) (P Q : A → Type 0) → ((x : A) → P x → Q x) → IfOk r P → IfOk r Q
 if_ok (Ok x) P Q f h = f x h

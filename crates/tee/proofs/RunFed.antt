@@ -104,9 +104,9 @@ threads_at state infos given asked [] [] (o ∷ os) a = absurd a
 threads_at state infos given asked [] (t ∷ ts) os a = absurd a
 threads_at state infos given asked (s ∷ ss) [] os a = absurd a
 threads_at state infos given asked (s ∷ ss) (t ∷ ts) [] a = absurd a
-threads_at state infos given asked (s ∷ ss) (Here h ∷ ts) (outlet.Here slave inline ∷ os) a = ap (λ (bs : List Bool). false ∷ bs) (threads_at state infos given asked ss ts os a.1)
+threads_at state infos given asked (s ∷ ss) (Here h ∷ ts) (outlet.Here slave inline left ∷ os) a = ap (λ (bs : List Bool). false ∷ bs) (threads_at state infos given asked ss ts os a.1)
 threads_at state infos given asked (s ∷ ss) (Here h ∷ ts) (outlet.There sender running ∷ os) a = absurd a.0
-threads_at state infos given asked (s ∷ ss) (There told ∷ ts) (outlet.Here slave inline ∷ os) a = absurd a.0
+threads_at state infos given asked (s ∷ ss) (There told ∷ ts) (outlet.Here slave inline left ∷ os) a = absurd a.0
 threads_at state infos given asked (s ∷ ss) (There told ∷ ts) (outlet.There sender running ∷ os) a = ap (λ (bs : List Bool). true ∷ bs) (threads_at state infos given asked ss ts os a.1)
 
 pub threads_stay : (n : ℕ) (ss : List Seat) (ts rs : List Track) → Each3 (TrackGoesOn n) ss ts rs → theres rs ≡ theres ts

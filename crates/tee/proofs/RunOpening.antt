@@ -30,6 +30,7 @@ use Rattle.tee.specs.Tracks.{Track, Here, There, one_if}
 use Rattle.tee.specs.declared.berth.Berth.{Berth}
 use Rattle.tee.specs.declared.draft.Draft.{Draft}
 use Rattle.tee.specs.declared.lanes.LaneKit.{LaneKit}
+use Rattle.tee.specs.declared.filter.Filtered.{Filtered}
 use Rattle.tee.specs.declared.outlet.Outlet.{Outlet}
 use Rattle.tee.specs.declared.outlet.Outlet.TheVariants as outlet
 use Rattle.tee.specs.declared.output.TeeSlave.{TeeSlave}
@@ -126,9 +127,9 @@ some_kit infos s kit true a = (refl, a)
 some_kit infos s kit false a = absurd a
 
 -- an output that was to have no thread
-pub here_open : {S : Type 0} {ghosts : Ghosts S} (G : Type 0) (state : S → ShelfState) (infos : List StreamInfo) (script : Option (List ℕ)) (s : Slave) (shelf : S) (slave : TeeSlave S ghosts)
-    → IsOpen state infos script s shelf slave → s.fifo.use_fifo ≡ false → IsOpenOn {S = S} {G = G} {ghosts = ghosts} state infos script s shelf (outlet.Here slave false)
-here_open G state infos script s shelf slave o quiet = record {
+pub here_open : {S : Type 0} {ghosts : Ghosts S} (G : Type 0) (state : S → ShelfState) (infos : List StreamInfo) (script : Option (List ℕ)) (s : Slave) (shelf : S) (slave : TeeSlave S ghosts) (left : Filtered)
+    → IsOpen state infos script s shelf slave → s.fifo.use_fifo ≡ false → IsOpenOn {S = S} {G = G} {ghosts = ghosts} state infos script s shelf (outlet.Here slave false left)
+here_open G state infos script s shelf slave left o quiet = record {
   seat = o.seat;
   is_seat = o.is_seat;
   track = Here o.history;
@@ -165,7 +166,7 @@ inlines_are state infos given asked [] [] (o ∷ os) a = absurd a
 inlines_are state infos given asked [] (t ∷ ts) os a = absurd a
 inlines_are state infos given asked (s ∷ ss) [] os a = absurd a
 inlines_are state infos given asked (s ∷ ss) (t ∷ ts) [] a = absurd a
-inlines_are state infos given asked (s ∷ ss) (Here h ∷ ts) (outlet.Here slave inline ∷ os) a =
+inlines_are state infos given asked (s ∷ ss) (Here h ∷ ts) (outlet.Here slave inline left ∷ os) a =
     let rest = inlines_are state infos given asked ss ts os a.1 in
     rw (a.0.1, rest) (ap (λ (b : Bool). one_if b + inlined ss (map is_threaded os)) (and_true s.slave.fifo.use_fifo))
   where
@@ -173,7 +174,7 @@ inlines_are state infos given asked (s ∷ ss) (Here h ∷ ts) (outlet.Here slav
     and_true true = refl
     and_true false = refl
 inlines_are state infos given asked (s ∷ ss) (Here h ∷ ts) (outlet.There sender running ∷ os) a = absurd a.0
-inlines_are state infos given asked (s ∷ ss) (There told ∷ ts) (outlet.Here slave inline ∷ os) a = absurd a.0
+inlines_are state infos given asked (s ∷ ss) (There told ∷ ts) (outlet.Here slave inline left ∷ os) a = absurd a.0
 inlines_are state infos given asked (s ∷ ss) (There told ∷ ts) (outlet.There sender running ∷ os) a =
     let rest = inlines_are state infos given asked ss ts os a.1 in
     rw rest (ap (λ (b : Bool). one_if b + inlined ss (map is_threaded os)) (and_false s.slave.fifo.use_fifo))

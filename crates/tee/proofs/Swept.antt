@@ -8,7 +8,7 @@ use Rattle.lane.specs.declared.msg.Msg.{Msg}
 use Rattle.rmx_media.specs.declared.packet.Packet.{Packet}
 use Rattle.slave.specs.AccountsAll.{SweptAt}
 use Rattle.slave.specs.Given.{Given, Sent, Swept, Gives}
-use Rattle.slave.specs.Handed.{PassedOn}
+use Rattle.slave.specs.LaneAccounts.{PassedOn}
 use Rattle.slave.specs.LaneAccounts.{SweptStretch}
 use Rattle.slave.specs.Origin.{Origin}
 use Rattle.slave.specs.Stretches.{Block, Stretches, Sized, given_in, given_of, larger, messages_of, numbers_of, sent, size_limit, swept}

@@ -11,7 +11,7 @@ use Rattle.tee.specs.Each.{Each3}
 use Rattle.tee.specs.Fails.{stops}
 use Rattle.tee.specs.Keeps.{IsWithin, stopped_by}
 use Rattle.tee.specs.Rides.{HasPlace, Rides}
-use Rattle.tee.specs.Route.{IsFiltered}
+use Rattle.tee.specs.Route.{IsFiltered, written}
 use Rattle.tee.specs.Seat.{Seat, aborts}
 use Rattle.tee.specs.Sits.{Sits}
 use Rattle.tee.specs.Tracks.{Track, Here, There, StopsOn, TrackGoesOn, known_deads}
@@ -22,7 +22,7 @@ use Rattle.tee.specs.declared.sender.Sender.{Sender}
 
 -- what an output takes
 abbrev pub choice_of : {S G : Type 0} {ghosts : Ghosts S} → Outlet S G ghosts → Choice
-choice_of (outlet.Here slave inline) = slave.choice
+choice_of (outlet.Here slave inline left) = slave.choice
 choice_of (outlet.There s running) = s.choice
 
 -- the thread of the output at a seat was started with a fresh job and the taker of this lane
@@ -33,24 +33,25 @@ pub record IsStarted (seat : Seat) (s : Sender) (task : Task) : Type 0 where
 
 -- the output at that seat came so far with what it takes of these packets; its lane, where it has one, was closed or not
 abbrev pub Attends : {S G : Type 0} {ghosts : Ghosts S} → (S → ShelfState) → List StreamInfo → List Packet → ℕ → Bool → Seat → Track → Outlet S G ghosts → Type 0
-Attends state infos given asked closed seat (Here h) (outlet.Here slave inline) = Sits state infos given seat h slave × (inline ≡ seat.slave.fifo.use_fifo)
+Attends state infos given asked closed seat (Here h) (outlet.Here slave inline left) = Sits state infos given seat h slave × (inline ≡ seat.slave.fifo.use_fifo)
 Attends state infos given asked closed seat (There told) (outlet.There s running) =
     Rides infos given asked seat told s × IsStarted seat s running × (s.giver.closed ≡ closed)
 Attends state infos given asked closed seat (Here h) (outlet.There s running) = ⊥
-Attends state infos given asked closed seat (There told) (outlet.Here slave inline) = ⊥
+Attends state infos given asked closed seat (There told) (outlet.Here slave inline left) = ⊥
 
 -- there is a place for a receipt, where one may come
 abbrev pub HasRoom : {S G : Type 0} {ghosts : Ghosts S} → Outlet S G ghosts → Type 0
-HasRoom (outlet.Here slave inline) = Unit {0}
+HasRoom (outlet.Here slave inline left) = Unit {0}
 HasRoom (outlet.There s running) = HasPlace s
 
--- the output at a seat gets that of a packet
-abbrev pub GetsOf : Packet → Seat → Option Packet → Type 0
-GetsOf p seat left = IsFiltered seat p left
+-- what is left of a packet for the output at a seat is kept there
+abbrev pub HasLeft : {S G : Type 0} {ghosts : Ghosts S} → Packet → Seat → Outlet S G ghosts → Type 0
+HasLeft p seat (outlet.Here slave inline left) = IsFiltered seat p (written p left)
+HasLeft p seat (outlet.There s running) = IsFiltered seat p s.left
 
--- and there is a place for what may come
-abbrev pub IsReady : {S G : Type 0} {ghosts : Ghosts S} → (S → ShelfState) → List StreamInfo → List Packet → ℕ → Seat → Track → Outlet S G ghosts → Type 0
-IsReady state infos given asked seat track o = Attends state infos given asked false seat track o × HasRoom o
+-- the output may get a packet without any memory
+abbrev pub IsReady : {S G : Type 0} {ghosts : Ghosts S} → (S → ShelfState) → List StreamInfo → List Packet → ℕ → Packet → Seat → Track → Outlet S G ghosts → Type 0
+IsReady state infos given asked p seat track o = Attends state infos given asked false seat track o × HasRoom o × HasLeft p seat o
 
 -- an output came so far, with a track that goes on from this one
 abbrev pub AttendsOn : {S G : Type 0} {ghosts : Ghosts S} → (S → ShelfState) → List StreamInfo → List Packet → ℕ → ℕ → Seat → Track → Outlet S G ghosts → Type 0

@@ -36,7 +36,7 @@ pub record AreOpenOn {S G : Type 0} {ghosts : Ghosts S} (state : S → ShelfStat
 
 -- whether the reader writes an output that was to have a thread
 abbrev pub is_inline : {S G : Type 0} {ghosts : Ghosts S} → Outlet S G ghosts → Bool
-is_inline (outlet.Here slave inline) = inline
+is_inline (outlet.Here slave inline left) = inline
 is_inline (outlet.There sender running) = false
 
 abbrev pub inlines : {S G : Type 0} {ghosts : Ghosts S} → List (Outlet S G ghosts) → ℕ

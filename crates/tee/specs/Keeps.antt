@@ -55,6 +55,15 @@ pub record Stands {S : Type 0} {ghosts : Ghosts S} (state : S → ShelfState) (i
   pub sit : AllSit state infos given seats histories slaves
   pub watches : Watches seats given histories count stopped
 
+-- the same tee, but for what its outputs wrote
+pub record SameBut {S : Type 0} {ghosts : Ghosts S} (old new : Tee S ghosts) : Type 0 where
+  pub len : length new.slaves.items ≡ length old.slaves.items
+  pub given : new.given ≡ old.given
+  pub stopped : new.stopped ≡ old.stopped
+  pub infos : new.infos ≡ old.infos
+  pub spare : new.spare ≡ old.spare
+  pub ends : new.ends ≡ old.ends
+
 -- a tee of the outputs at these seats, which was given these packets
 pub record Keeps {S : Type 0} {ghosts : Ghosts S} (state : S → ShelfState) (tee : Tee S ghosts) (seats : List Seat) (given : List Packet) : Type 0 where
   pub stands : Stands state tee.infos.items tee.slaves.items tee.given tee.stopped seats given

@@ -1,4 +1,5 @@
 pub mod Attends
+pub mod Berths
 pub mod Choice
 pub mod Draft
 pub mod Each
@@ -6,14 +7,14 @@ pub mod Ends
 pub mod Fails
 pub mod Fed
 pub mod Keeps
+pub mod LaneKits
 pub mod None
 pub mod Offers
 pub mod Rides
 pub mod Route
 pub mod RunEnds
 pub mod RunKeeps
+pub mod Schedule
 pub mod Seat
 pub mod Sits
 pub mod Tracks
-pub mod LaneKits
-pub mod Berths

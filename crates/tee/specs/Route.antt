@@ -1,5 +1,5 @@
 -- What an output does with the packets of each stream, and what it leaves of a packet.
-use Rattle.std.specs.Prelude.{◌≡◌, ℕ, true, List, [], ◌∷◌, Option, Some, None, IfSome}
+use Rattle.std.specs.Prelude.{◌≡◌, ℕ, ◌==◌, if◌then◌else◌, Bool, true, false, List, [], ◌∷◌, Option, Some, None, IfSome}
 use Rattle.rmx_media.specs.declared.packet.Format.TheVariants.{Mpegts}
 use Rattle.rmx_media.specs.declared.packet.Packet.{Packet}
 use Rattle.rmx_media.specs.declared.streams.Kind.{Kind}
@@ -28,6 +28,28 @@ abbrev pub IsRoute : List MuxStream → List (Spec × List Filter) → ℕ → R
 IsRoute streams chains number Skip = kind_in streams number ≡ None
 IsRoute streams chains number Whole = (kind : Kind) × (kind_in streams number ≡ Some kind) × (filters_for chains number kind ≡ [])
 IsRoute streams chains number (Through chain) = (kind : Kind) × (kind_in streams number ≡ Some kind) × (chain ≡ filters_for chains number kind)
+
+-- what an output does with the packets of the stream of that number
+abbrev pub route_in : Choice → ℕ → Route
+route_in c number = if number == 0 then c.first else c.second
+
+abbrev pub is_through : Route → Bool
+is_through Skip = false
+is_through Whole = false
+is_through (Through chain) = true
+
+abbrev pub is_whole : Route → Bool
+is_whole Skip = false
+is_whole Whole = true
+is_whole (Through chain) = false
+
+-- whether filters stand for the stream of that number
+abbrev pub filters_in : Choice → ℕ → Bool
+filters_in c number = is_through (route_in c number)
+
+-- whether its packets are written as they are
+abbrev pub passes_in : Choice → ℕ → Bool
+passes_in c number = is_whole (route_in c number)
 
 -- the packet that is written
 abbrev pub written : Packet → Filtered → Option Packet

@@ -26,7 +26,7 @@ dead_in run u = stopped_by run.stopped u
 
 -- whether a thread writes an output
 abbrev pub is_threaded : {S G : Type 0} {ghosts : Ghosts S} → Outlet S G ghosts → Bool
-is_threaded (outlet.Here slave inline) = false
+is_threaded (outlet.Here slave inline left) = false
 is_threaded (outlet.There sender running) = true
 
 -- which outputs have threads

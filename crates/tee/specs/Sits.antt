@@ -1,5 +1,5 @@
 -- The outputs of a tee, each at its seat.
-use Rattle.std.specs.Prelude.{◌≡◌, true, Bool, List, [], ◌∷◌, ◌++◌, length}
+use Rattle.std.specs.Prelude.{◌≡◌, true, false, Bool, List, [], ◌∷◌, ◌++◌, length}
 use Rattle.fifo_core.specs.History.{History, mode_of, mode_is_dead}
 use Rattle.rmx_edge.specs.Shelf.{ShelfState}
 use Rattle.rmx_edge.specs.declared.shelf.Shelf.{Ghosts}
@@ -9,8 +9,8 @@ use Rattle.slave.specs.Job.{view_of}
 use Rattle.slave.specs.Table.{Keeps}
 use Rattle.slave.specs.End.{EndedBy, IsUnclosed, end_view}
 use Rattle.slave.specs.declared.job.SlaveEnd.{SlaveEnd}
-use Rattle.tee.specs.Route.{IsPlaced}
-use Rattle.tee.specs.Seat.{Seat, chosen}
+use Rattle.tee.specs.Route.{IsPlaced, filters_in}
+use Rattle.tee.specs.Seat.{Seat, IsInput, chosen}
 use Rattle.tee.specs.declared.output.TeeSlave.{TeeSlave}
 
 -- the output at that seat got what it takes of these packets, with that history
@@ -47,6 +47,13 @@ pub record SitsOn {S : Type 0} {ghosts : Ghosts S} (state : S → ShelfState) (i
   pub later : History
   pub goes_on : history ≡ later ++ before
   pub stays_dead : is_dead seat before ≡ true → is_dead seat history ≡ true
+
+-- an output may get a packet of the input as it is, or not at all
+pub record Passes {S : Type 0} {ghosts : Ghosts S} (state : S → ShelfState) (infos : List StreamInfo) (given : List Packet) (p : Packet)
+    (seat : Seat) (history : History) (slave : TeeSlave S ghosts) : Type 0 where
+  pub sits : Sits state infos given seat history slave
+  pub unfiltered : filters_in slave.choice p.stream ≡ false
+  pub taken : IsInput infos p
 
 -- each of the outputs
 abbrev pub AllSitOn : {S : Type 0} {ghosts : Ghosts S} → (S → ShelfState) → List StreamInfo → List Packet → List Seat → List History → List (TeeSlave S ghosts) → Type 0

@@ -1,5 +1,6 @@
 // One packet for all outputs.
 ghost use Rattle.std.specs.Prelude.{◌≡◌, ◌≤◌, ◌<◌, ◌++◌, ◌∷◌, [], ◌^◌, List, length, OnOk};
+ghost use Rattle.std.specs.List.{list_any};
 ghost use Rattle.fifo_core.specs.History.{History};
 ghost use Rattle.rmx_media.specs.Config.{kind_of};
 ghost use Rattle.rmx_media.specs.Fits.{Fits};
@@ -8,10 +9,11 @@ ghost use Rattle.rmx_media.specs.declared.packet.Format.TheVariants.{Flv};
 ghost use Rattle.rmx_media.specs.declared.packet.Packet.{Packet};
 ghost use Rattle.rmx_media.specs.declared.streams.MuxStreams.{MuxStreams};
 ghost use Rattle.rmx_media.specs.declared.streams.StreamInfo.{StreamInfo as Info};
+ghost use Rattle.tee.specs.Each.{Each3};
 ghost use Rattle.tee.specs.Fails.{stops};
-ghost use Rattle.tee.specs.Route.{AllFiltered};
+ghost use Rattle.tee.specs.Route.{AllFiltered, filters_in};
 ghost use Rattle.tee.specs.Seat.{Seat, IsInput, aborts};
-ghost use Rattle.tee.specs.Sits.{AllSit, AllSitOn, deads};
+ghost use Rattle.tee.specs.Sits.{AllSit, AllSitOn, Passes, SitsOn, deads};
 
 use crate::filter::Filtered;
 use crate::output::TeeSlave;
@@ -19,6 +21,26 @@ use arrayvec::ArrayVec;
 use rmx_edge::Shelf;
 use rmx_media::{NoMemory, Packet, StreamInfo};
 use std::alloc::Global;
+
+/// Whether filters stand for the stream of that number at one of the outputs.
+pub fn filters_any<S: Shelf>(slaves: &[TeeSlave<S>], stream: u32) -> bool
+    ensures { result ≡ list_any (λ slave. filters_in slave.choice stream) slaves.now }
+{
+    slaves.iter().any(|slave| slave.choice.filters(stream))
+}
+
+/// Each output that takes a packet writes it. No filters stand for its stream.
+pub fn pass_all<S: Shelf>(slaves: &mut [TeeSlave<S>], p: &Packet)
+    requires number { p.now.stream < 2 }
+    requires ready { (infos : List Info) × (given : List Packet) × (seats : List Seat) × (histories : List History)
+        × Each3 (Passes S.state infos given p.now) seats histories slaves.old × (length given < 2 ^ 61) }
+    ensures { (infos : List Info) (given : List Packet) (seats : List Seat) (histories : List History)
+        → Each3 (Passes S.state infos given p.now) seats histories slaves.old → Each3 (SitsOn S.state infos (given ++ p.now ∷ [])) seats histories slaves.new }
+{
+    for slave in slaves.iter_mut() {
+        slave.pass(p);
+    }
+}
 
 /// What each output writes of a packet.
 pub fn filter_all<S: Shelf>(

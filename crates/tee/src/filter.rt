@@ -9,7 +9,7 @@ ghost use Rattle.rmx_media.specs.declared.packet.Format.TheVariants.{Flv};
 ghost use Rattle.rmx_media.specs.declared.streams.MuxStream.{MuxStream};
 ghost use Rattle.rmx_media.specs.declared.streams.MuxStreams.{MuxStreams};
 ghost use Rattle.rmx_media.specs.declared.streams.StreamInfo.{StreamInfo as Info};
-ghost use Rattle.tee.specs.Route.{IsRoute, IsLeft, IsPlaced, IsFiltered, written};
+ghost use Rattle.tee.specs.Route.{IsRoute, IsLeft, IsPlaced, IsFiltered, filters_in, is_through as through, is_whole as whole, passes_in, route_in, written};
 ghost use Rattle.tee.specs.Seat.{Seat, IsInput};
 
 use crate::choice::{Choice, Route};
@@ -34,6 +34,24 @@ impl Default for Filtered {
 }
 
 impl Route {
+    fn is_through(&self) -> bool
+        ensures { result ≡ through self.now }
+    {
+        match self {
+            Route::Through(_) => true,
+            Route::Skip | Route::Whole => false,
+        }
+    }
+
+    fn is_whole(&self) -> bool
+        ensures { result ≡ whole self.now }
+    {
+        match self {
+            Route::Whole => true,
+            Route::Skip | Route::Through(_) => false,
+        }
+    }
+
     // What is written of a packet of a stream.
     fn filter(&self, alloc: Global, info: &StreamInfo, p: &Packet) -> Result<Filtered, NoMemory>
         requires info { IsSound info.now }
@@ -55,6 +73,31 @@ impl Route {
 }
 
 impl Choice {
+    // What is done with the packets of the stream of that number.
+    fn route(&self, stream: u32) -> &Route
+        ensures { result.now ≡ route_in self.now stream }
+    {
+        if stream == 0 {
+            &self.first
+        } else {
+            &self.second
+        }
+    }
+
+    /// Whether filters stand for the stream of that number.
+    pub fn filters(&self, stream: u32) -> bool
+        ensures { result ≡ filters_in self.now stream }
+    {
+        self.route(stream).is_through()
+    }
+
+    /// Whether packets of the stream of that number are written as they are.
+    pub fn passes(&self, stream: u32) -> bool
+        ensures { result ≡ passes_in self.now stream }
+    {
+        self.route(stream).is_whole()
+    }
+
     /// What is written of a packet of a stream.
     pub fn filter(&self, alloc: Global, info: &StreamInfo, p: &Packet) -> Result<Filtered, NoMemory>
         requires info { IsSound info.now }

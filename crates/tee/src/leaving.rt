@@ -47,6 +47,7 @@ fn join<S: Shelf + Drop, G: Gate + Drop, R: Threads + Wait>(
         giver,
         receipts,
         choice: _,
+        left: _,
         count: _,
         cap,
         drops: _,
@@ -65,7 +66,7 @@ impl<S: Shelf, G> Outlet<S, G> {
             → Attends S.state infos given asked true seat track self.new }
     {
         match self {
-            Outlet::Here(_, _) => {}
+            Outlet::Here(_, _, _) => {}
             Outlet::There(sender, _) => sender.close(),
         }
     }
@@ -80,7 +81,7 @@ impl<S: Shelf + Drop, G: Gate + Drop> Outlet<S, G> {
         ensures short { result.1 ≡ true → result.0.state ≡ NoMemory }
     {
         match self {
-            Outlet::Here(slave, inline) => {
+            Outlet::Here(slave, inline, _) => {
                 let mut end = slave.finish();
                 end.inline = inline;
                 (end, false)

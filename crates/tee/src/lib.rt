@@ -10,6 +10,7 @@ mod fed;
 mod feeding;
 mod filter;
 mod lanes;
+mod laws;
 mod leaving;
 mod making;
 mod outlet;
@@ -25,5 +26,6 @@ mod tee;
 
 pub use fault::{TeeFault, TeeRefused};
 pub use fed::Fed;
+pub use laws::schedule_plays_no_part;
 pub use run::TeeRun;
 pub use tee::{Tee, TeeEnd};

@@ -1,5 +1,5 @@
 // One output of a run.
-ghost use Rattle.std.specs.Prelude.{◌≡◌, ◌<◌, ◌≤◌, ◌+◌, ◌++◌, ◌∷◌, [], ◌^◌, ℕ, List, Option, Some, false, length, IfOk, OnOk};
+ghost use Rattle.std.specs.Prelude.{◌≡◌, ◌<◌, ◌≤◌, ◌+◌, ◌++◌, ◌∷◌, [], ◌^◌, ℕ, List, false, length, OnOk};
 ghost use Rattle.fifo_core.specs.History.{History};
 ghost use Rattle.rmx_media.specs.Config.{kind_of};
 ghost use Rattle.rmx_media.specs.Fits.{Fits};
@@ -8,7 +8,7 @@ ghost use Rattle.rmx_media.specs.declared.packet.Format.TheVariants.{Flv};
 ghost use Rattle.rmx_media.specs.declared.packet.Packet.{Packet as Piece};
 ghost use Rattle.rmx_media.specs.declared.streams.MuxStreams.{MuxStreams};
 ghost use Rattle.rmx_media.specs.declared.streams.StreamInfo.{StreamInfo as Info};
-ghost use Rattle.tee.specs.Route.{IsFiltered, IsPlaced};
+ghost use Rattle.tee.specs.Route.{IsFiltered, IsPlaced, written};
 ghost use Rattle.tee.specs.Seat.{Seat, IsInput};
 ghost use Rattle.tee.specs.Sits.{Sits, SitsOn};
 ghost use Rattle.tee.specs.Tracks.{Track, known_dead};
@@ -26,89 +26,59 @@ use std::sync::Wait;
 /// An output that the reader writes, or one with a thread of its own.
 #[derive(Drop)]
 pub enum Outlet<S: Shelf, G> {
-    /// The reader writes it. It may have been meant to have a thread.
-    Here(TeeSlave<S>, bool),
+    /// The reader writes it. It may have been meant to have a thread. The last is what is left for it of the packet that is given next.
+    Here(TeeSlave<S>, bool, Filtered),
     /// A thread writes it, at the other end of a lane.
     There(Sender, Running<S, G>),
 }
 
-// What an output with this choice gets of a packet.
-fn left_of(
-    choice: &Choice,
-    alloc: Global,
-    info: &StreamInfo,
-    p: &Packet,
-) -> Result<Option<Packet>, NoMemory>
-    requires info { IsSound info.now }
-    requires kind { kind_of p.now.config ≡ info.now.kind }
-    requires fits { (all : MuxStreams) × Fits Flv all p.now }
-    requires number { p.now.stream < 2 }
-    ensures { (infos : List Info) (seat : Seat) → AreInfos infos → IsPlaced infos seat choice.now → IsInput infos p.now
-        → IfOk result (λ left. IsFiltered seat p.now left) }
+// Writes what is left of a packet, of which nothing is left then.
+fn write_left<S: Shelf>(slave: &mut TeeSlave<S>, p: &Packet, left: &mut Filtered)
+    requires ready { (infos : List Info) × (given : List Piece) × (seat : Seat) × (history : History) × Sits S.state infos given seat history slave.old
+        × IsFiltered seat p.now (written p.now left.old) × (length given < 2 ^ 61) }
+    ensures { (infos : List Info) (given : List Piece) (seat : Seat) (history : History) → Sits S.state infos given seat history slave.old
+        → IsFiltered seat p.now (written p.now left.old) → SitsOn S.state infos (given ++ p.now ∷ []) seat history slave.new }
 {
-    match choice.filter(alloc, info, p) {
-        Ok(Filtered::Same) => match p.copy() {
-            Ok(packet) => Ok(Some(packet)),
-            Err(refused) => Err(refused),
-        },
-        Ok(Filtered::Other(packet)) => Ok(Some(packet)),
-        Ok(Filtered::Dropped) => Ok(None),
-        Err(refused) => Err(refused),
-    }
-}
-
-// An output that the reader writes gets what was left of a packet.
-fn write_left<S: Shelf>(slave: &mut TeeSlave<S>, left: Option<Packet>)
-    requires ready { (infos : List Info) × (given : List Piece) × (seat : Seat) × (history : History) × (p : Piece) × Sits S.state infos given seat history slave.old
-        × IsFiltered seat p left × (length given < 2 ^ 61) }
-    ensures { (infos : List Info) (given : List Piece) (seat : Seat) (history : History) (p : Piece) → Sits S.state infos given seat history slave.old
-        → IsFiltered seat p left → SitsOn S.state infos (given ++ p ∷ []) seat history slave.new }
-{
-    match left {
-        Some(packet) => slave.write(&packet),
-        None => {}
-    }
+    slave.give(p, &*left);
+    *left = Filtered::Dropped;
 }
 
 impl<S: Shelf, G> Outlet<S, G> {
-    ghost use Rattle.tee.specs.Attends.{Attends, AttendsOn, HasRoom, IsReady, choice_of};
+    ghost use Rattle.tee.specs.Attends.{Attends, AttendsOn, IsReady, choice_of};
 
     // What it takes.
     fn choice(&self) -> &Choice
         ensures { result.now ≡ choice_of self.now }
     {
         match self {
-            Outlet::Here(slave, _) => &slave.choice,
+            Outlet::Here(slave, _, _) => &slave.choice,
             Outlet::There(sender, _) => &sender.choice,
         }
     }
 
-    /// What it gets of a packet.
-    pub fn filter(
-        &self,
-        alloc: Global,
-        info: &StreamInfo,
-        p: &Packet,
-    ) -> Result<Option<Packet>, NoMemory>
+    /// Keeps what it gets of a packet, and takes the memory that it may need then.
+    pub fn prepare(&mut self, alloc: Global, info: &StreamInfo, p: &Packet) -> Result<(), NoMemory>
         requires info { IsSound info.now }
         requires kind { kind_of p.now.config ≡ info.now.kind }
         requires fits { (all : MuxStreams) × Fits Flv all p.now }
         requires number { p.now.stream < 2 }
-        ensures { (infos : List Info) (seat : Seat) → AreInfos infos → IsPlaced infos seat (choice_of self.now) → IsInput infos p.now
-            → IfOk result (λ left. IsFiltered seat p.now left) }
-    {
-        left_of(self.choice(), alloc, info, p)
-    }
-
-    /// Takes the memory that a packet may need.
-    pub fn reserve(&mut self) -> Result<(), NoMemory>
         ensures same { (infos : List Info) (given : List Piece) (asked : ℕ) (seat : Seat) (track : Track) → Attends S.state infos given asked false seat track self.old
             → Attends S.state infos given asked false seat track self.new }
-        ensures room { OnOk result (HasRoom self.new) }
+        ensures ready { OnOk result ((infos : List Info) (given : List Piece) (asked : ℕ) (seat : Seat) (track : Track) → AreInfos infos → IsInput infos p.now
+            → Attends S.state infos given asked false seat track self.old → IsReady S.state infos given asked p.now seat track self.new) }
     {
         match self {
-            Outlet::Here(_, _) => Ok(()),
-            Outlet::There(sender, _) => sender.reserve(),
+            Outlet::Here(slave, _, left) => match slave.choice.filter(alloc, info, p) {
+                Ok(filtered) => {
+                    *left = filtered;
+                    Ok(())
+                }
+                Err(refused) => Err(refused),
+            },
+            Outlet::There(sender, _) => match sender.prepare(alloc, info, p) {
+                Ok(()) => Ok(()),
+                Err(refused) => Err(refused),
+            },
         }
     }
 
@@ -119,7 +89,7 @@ impl<S: Shelf, G> Outlet<S, G> {
             → AttendsOn S.state infos given (asked + 1) (asked + 1) seat track self.new }
     {
         match self {
-            Outlet::Here(_, _) => {}
+            Outlet::Here(_, _, _) => {}
             Outlet::There(sender, _) => sender.ask(),
         }
     }
@@ -130,7 +100,7 @@ impl<S: Shelf, G> Outlet<S, G> {
             → result ≡ known_dead seat track }
     {
         match self {
-            Outlet::Here(slave, _) => slave.job.is_dead(),
+            Outlet::Here(slave, _, _) => slave.job.is_dead(),
             Outlet::There(sender, _) => sender.failed,
         }
     }
@@ -146,16 +116,16 @@ impl<S: Shelf, G> Outlet<S, G> {
 impl<S: Shelf, G: Gate> Outlet<S, G> {
     ghost use Rattle.tee.specs.Attends.{AttendsOn, IsReady};
 
-    /// It gets what was left of a packet.
-    pub fn give<R: Wait>(&mut self, rt: &R, gate: &G, number: u32, left: Option<Packet>)
-        requires ready { (infos : List Info) × (given : List Piece) × (asked : ℕ) × (seat : Seat) × (track : Track) × (p : Piece) × IsReady S.state infos given asked seat track self.old
-            × IsFiltered seat p left × (length given < 2 ^ 61) }
-        ensures { (infos : List Info) (given : List Piece) (asked : ℕ) (seat : Seat) (track : Track) (p : Piece) → IsReady S.state infos given asked seat track self.old
-            → IsFiltered seat p left → AttendsOn S.state infos (given ++ p ∷ []) asked (asked + 1) seat track self.new }
+    /// It gets what is left of a packet.
+    pub fn give<R: Wait>(&mut self, rt: &R, gate: &G, number: u32, p: &Packet)
+        requires ready { (infos : List Info) × (given : List Piece) × (asked : ℕ) × (seat : Seat) × (track : Track)
+            × IsReady S.state infos given asked p.now seat track self.old × (length given < 2 ^ 61) }
+        ensures { (infos : List Info) (given : List Piece) (asked : ℕ) (seat : Seat) (track : Track) → IsReady S.state infos given asked p.now seat track self.old
+            → AttendsOn S.state infos (given ++ p.now ∷ []) asked (asked + 1) seat track self.new }
     {
         match self {
-            Outlet::Here(slave, _) => write_left(slave, left),
-            Outlet::There(sender, _) => sender.give(rt, gate, number, left),
+            Outlet::Here(slave, _, left) => write_left(slave, p, left),
+            Outlet::There(sender, _) => sender.give(rt, gate, number),
         }
     }
 }

@@ -27,7 +27,7 @@ pub struct TeeSlave<S: Shelf> {
 
 impl<S: Shelf> TeeSlave<S> {
     ghost use Rattle.tee.specs.Draft.{IsDraft, IsOpen};
-    ghost use Rattle.tee.specs.Sits.{EndsAt, Sits, SitsOn};
+    ghost use Rattle.tee.specs.Sits.{EndsAt, Passes, Sits, SitsOn};
 
     /// Opens an output on a shelf.
     pub fn open(draft: Draft, shelf: S) -> TeeSlave<S>
@@ -68,6 +68,19 @@ impl<S: Shelf> TeeSlave<S> {
     {
         self.job.write_direct(self.count, p);
         self.count += 1;
+    }
+
+    /// Writes a packet of a stream for which no filters stand, where it takes it.
+    pub fn pass(&mut self, p: &Packet)
+        requires number { p.now.stream < 2 }
+        requires ready { (infos : List Info) × (given : List Packet) × (seat : Seat) × (history : History) × Passes S.state infos given p.now seat history self.old
+            × (length given < 2 ^ 61) }
+        ensures { (infos : List Info) (given : List Packet) (seat : Seat) (history : History) → Passes S.state infos given p.now seat history self.old
+            → SitsOn S.state infos (given ++ p.now ∷ []) seat history self.new }
+    {
+        if self.choice.passes(p.stream) {
+            self.write(p);
+        }
     }
 
     /// Writes what was left of a packet.

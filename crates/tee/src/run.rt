@@ -14,9 +14,8 @@ ghost use Rattle.tee.specs.Tracks.{Track, known_deads};
 use crate::fed::Fed;
 use crate::outlet::Outlet;
 use crate::run_ending::{close_all, finish_each};
-use crate::run_feeding::{ask_all, filter_each, give_all_out, is_any_over, reserve_all};
+use crate::run_feeding::{ask_all, give_all_out, is_any_over, prepare_all};
 use crate::tee::TeeEnd;
-use arrayvec::ArrayVec;
 use rmx_edge::{Gate, Shelf};
 use rmx_media::{Items, NoMemory, Packet, StreamInfo};
 use slave::SlaveEnd;
@@ -109,19 +108,12 @@ impl<S: Shelf, G: Gate> TeeRun<S, G> {
         ensures kept { OnErr result ((seats : List Seat) (given : List Piece) → KeepsRun S.state self.old seats given → KeepsRun S.state self.new seats given) }
         ensures dead { OnErr result ((u : ℕ) → dead_in self.new u ≡ dead_in self.old u) }
     {
-        let mut lefts = ArrayVec::new();
-        filter_each(
-            self.alloc,
-            self.outlets.as_slice(),
-            &self.infos.as_slice()[p.stream as usize],
-            p,
-            &mut lefts,
-        )?;
-        match reserve_all(&mut self.outlets) {
+        let info = &self.infos.as_slice()[p.stream as usize];
+        match prepare_all(self.alloc, &mut self.outlets, info, p) {
             Ok(()) => {}
             Err(refused) => return Err(refused),
         }
-        give_all_out(rt, &*self.gate, &mut self.outlets, lefts);
+        give_all_out(rt, &*self.gate, &mut self.outlets, p);
         ask_all(&mut self.outlets);
         Ok(self.count())
     }

@@ -4,7 +4,7 @@ ghost use Rattle.std.specs.Arc.{arc_value};
 
 use crate::choice::Choice;
 use lane::{Giver, Lane, Receipt};
-use rmx_media::Items;
+use rmx_media::{Items, Packet};
 use std::sync::Arc;
 
 /// A lane to the thread of an output, what the output takes, and what the reader knows of it.
@@ -15,6 +15,8 @@ pub struct Sender {
     /// The refused packets, in order.
     pub receipts: Items<Receipt>,
     pub choice: Choice,
+    /// What is left for it of the packet that is given next.
+    pub left: Option<Packet>,
     /// How many packets were offered.
     pub count: u64,
     /// How many packets may wait.

@@ -1,20 +1,52 @@
 // What the reader does with a lane.
-ghost use Rattle.std.specs.Prelude.{◌≡◌, ◌≤◌, ◌<◌, ◌+◌, ◌++◌, ◌∷◌, [], ◌^◌, ℕ, List, Option, Some, false, length, OnOk};
+ghost use Rattle.std.specs.Prelude.{◌≡◌, ◌≤◌, ◌<◌, ◌+◌, ◌++◌, ◌∷◌, [], ◌^◌, ℕ, List, Option, Some, false, length, IfOk, OnOk};
 ghost use Rattle.lane.specs.Follows.{next_index};
+ghost use Rattle.rmx_media.specs.Config.{kind_of};
 ghost use Rattle.rmx_media.specs.Fits.{Fits};
+ghost use Rattle.rmx_media.specs.Streams.{AreInfos, IsSound};
+ghost use Rattle.rmx_media.specs.declared.packet.Format.TheVariants.{Flv};
+ghost use Rattle.rmx_media.specs.declared.streams.MuxStreams.{MuxStreams};
 ghost use Rattle.slave.specs.Table.{Takes};
 ghost use Rattle.rmx_media.specs.declared.packet.Packet.{Packet as Piece};
 ghost use Rattle.rmx_media.specs.declared.streams.StreamInfo.{StreamInfo as Info};
 ghost use Rattle.tee.specs.Choice.{choice as choice_by};
-ghost use Rattle.tee.specs.Route.{IsFiltered};
-ghost use Rattle.tee.specs.Seat.{Seat};
+ghost use Rattle.tee.specs.Route.{IsFiltered, IsPlaced};
+ghost use Rattle.tee.specs.Seat.{Seat, IsInput};
 ghost use Rattle.tee.specs.Tracks.{ToldBy};
 
+use crate::choice::Choice;
+use crate::filter::Filtered;
 use crate::sender::Sender;
 use lane::{Msg, Offer};
 use rmx_edge::{Gate, Point};
-use rmx_media::{NoMemory, Packet};
+use rmx_media::{NoMemory, Packet, StreamInfo};
+use std::alloc::Global;
 use std::sync::Wait;
+
+// What an output with this choice gets of a packet.
+fn left_of(
+    choice: &Choice,
+    alloc: Global,
+    info: &StreamInfo,
+    p: &Packet,
+) -> Result<Option<Packet>, NoMemory>
+    requires info { IsSound info.now }
+    requires kind { kind_of p.now.config ≡ info.now.kind }
+    requires fits { (all : MuxStreams) × Fits Flv all p.now }
+    requires number { p.now.stream < 2 }
+    ensures { (infos : List Info) (seat : Seat) → AreInfos infos → IsPlaced infos seat choice.now → IsInput infos p.now
+        → IfOk result (λ left. IsFiltered seat p.now left) }
+{
+    match choice.filter(alloc, info, p) {
+        Ok(Filtered::Same) => match p.copy() {
+            Ok(packet) => Ok(Some(packet)),
+            Err(refused) => Err(refused),
+        },
+        Ok(Filtered::Other(packet)) => Ok(Some(packet)),
+        Ok(Filtered::Dropped) => Ok(None),
+        Err(refused) => Err(refused),
+    }
+}
 
 impl Sender {
     ghost use Rattle.tee.specs.Rides.{HasPlace, Hands, Rides, SameEnd};
@@ -55,17 +87,17 @@ impl Sender {
         self.count += 1;
     }
 
-    /// Offers what was left of a packet.
-    pub fn give<G: Gate, R: Wait>(&mut self, rt: &R, gate: &G, number: u32, left: Option<Packet>)
+    /// Offers what is left of a packet.
+    pub fn give<G: Gate, R: Wait>(&mut self, rt: &R, gate: &G, number: u32)
         requires open { self.old.giver.closed ≡ false }
         requires place { HasPlace self.old }
         requires ready { (infos : List Info) × (given : List Piece) × (asked : ℕ) × (seat : Seat) × (told : Option ℕ) × (p : Piece) × Rides infos given asked seat told self.old
-            × IsFiltered seat p left × (length given < 2 ^ 61) }
+            × IsFiltered seat p self.old.left × (length given < 2 ^ 61) }
         ensures same { SameEnd self.old self.new }
         ensures rides { (infos : List Info) (given : List Piece) (asked : ℕ) (seat : Seat) (told : Option ℕ) (p : Piece) → Rides infos given asked seat told self.old
-            → IsFiltered seat p left → Rides infos (given ++ p ∷ []) asked seat told self.new }
+            → IsFiltered seat p self.old.left → Rides infos (given ++ p ∷ []) asked seat told self.new }
     {
-        match left {
+        match self.left.take() {
             Some(packet) => {
                 gate.pass(rt, number, Point::BeforeOffer);
                 self.send(rt, packet);
@@ -84,9 +116,10 @@ impl Sender {
         self.failed = self.lane.failed(&mut self.giver);
     }
 
-    /// Takes the memory of one more receipt, where offers may be refused.
-    pub fn reserve(&mut self) -> Result<(), NoMemory>
+    // Takes the memory of one more receipt, where offers may be refused.
+    fn reserve(&mut self) -> Result<(), NoMemory>
         ensures same { SameEnd self.old self.new }
+        ensures left { self.new.left ≡ self.old.left }
         ensures rides { (infos : List Info) (given : List Piece) (asked : ℕ) (seat : Seat) (told : Option ℕ) → Rides infos given asked seat told self.old
             → Rides infos given asked seat told self.new }
         ensures place { OnOk result (HasPlace self.new) }
@@ -95,6 +128,44 @@ impl Sender {
             self.receipts.reserve(1)
         } else {
             Ok(())
+        }
+    }
+
+    // Keeps what is left of a packet.
+    fn keep(&mut self, alloc: Global, info: &StreamInfo, p: &Packet) -> Result<(), NoMemory>
+        requires info { IsSound info.now }
+        requires kind { kind_of p.now.config ≡ info.now.kind }
+        requires fits { (all : MuxStreams) × Fits Flv all p.now }
+        requires number { p.now.stream < 2 }
+        ensures same { SameEnd self.old self.new }
+        ensures rides { (infos : List Info) (given : List Piece) (asked : ℕ) (seat : Seat) (told : Option ℕ) → Rides infos given asked seat told self.old
+            → Rides infos given asked seat told self.new }
+        ensures left { OnOk result ((infos : List Info) (seat : Seat) → AreInfos infos → IsPlaced infos seat self.old.choice → IsInput infos p.now → IsFiltered seat p.now self.new.left) }
+    {
+        match left_of(&self.choice, alloc, info, p) {
+            Ok(left) => {
+                self.left = left;
+                Ok(())
+            }
+            Err(refused) => Err(refused),
+        }
+    }
+
+    /// Keeps what is left of a packet, and takes the memory that may be needed when it is offered.
+    pub fn prepare(&mut self, alloc: Global, info: &StreamInfo, p: &Packet) -> Result<(), NoMemory>
+        requires info { IsSound info.now }
+        requires kind { kind_of p.now.config ≡ info.now.kind }
+        requires fits { (all : MuxStreams) × Fits Flv all p.now }
+        requires number { p.now.stream < 2 }
+        ensures same { SameEnd self.old self.new }
+        ensures rides { (infos : List Info) (given : List Piece) (asked : ℕ) (seat : Seat) (told : Option ℕ) → Rides infos given asked seat told self.old
+            → Rides infos given asked seat told self.new }
+        ensures left { OnOk result ((infos : List Info) (seat : Seat) → AreInfos infos → IsPlaced infos seat self.old.choice → IsInput infos p.now → IsFiltered seat p.now self.new.left) }
+        ensures place { OnOk result (HasPlace self.new) }
+    {
+        match self.keep(alloc, info, p) {
+            Ok(()) => self.reserve(),
+            Err(refused) => Err(refused),
         }
     }
 }

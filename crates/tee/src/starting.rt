@@ -17,6 +17,7 @@ ghost use Rattle.tee.specs.RunKeeps.{IsCounted};
 use crate::berth::Berth;
 use crate::choice::Choice;
 use crate::draft::Draft;
+use crate::filter::Filtered;
 use crate::lanes::LaneKit;
 use crate::outlet::Outlet;
 use crate::output::TeeSlave;
@@ -75,6 +76,7 @@ fn open_there<
                 giver,
                 receipts,
                 choice,
+                left: None,
                 count: 0,
                 cap,
                 drops,
@@ -82,7 +84,7 @@ fn open_there<
             };
             Outlet::There(sender, running)
         }
-        Err((job, _taker)) => Outlet::Here(open_here(job, choice), true),
+        Err((job, _taker)) => Outlet::Here(open_here(job, choice), true, Filtered::Dropped),
     }
 }
 
@@ -101,7 +103,7 @@ fn open<
 {
     let Berth { draft, lane } = berth;
     match lane {
-        None => Outlet::Here(TeeSlave::open(draft, shelf), false),
+        None => Outlet::Here(TeeSlave::open(draft, shelf), false, Filtered::Dropped),
         Some(kit) => open_there(rt, spawner, draft, kit, shelf, number),
     }
 }

@@ -1,6 +1,6 @@
 // All outputs of a run.
-ghost use Rattle.std.specs.Prelude.{◌≡◌, ◌≤◌, ◌<◌, ◌+◌, ◌++◌, ◌∷◌, [], ◌^◌, ℕ, true, false, length, map, option_map, All, List, Option, None, Some, IfErr, IfOk, OnErr, is_some};
-ghost use Rattle.std.specs.List.{AllZip};
+ghost use Rattle.std.specs.Prelude.{◌≡◌, ◌≤◌, ◌<◌, ◌+◌, ◌++◌, ◌∷◌, [], ◌^◌, ℕ, true, false, length, map, option_map, All, List, Option, None, Some, IfErr, IfOk, OnErr, OnOk, is_some};
+ghost use Rattle.std.specs.List.{AllZip, list_any};
 ghost use Rattle.fifo_core.specs.History.{History};
 ghost use Rattle.rmx_media.specs.declared.packet.Packet.{Packet};
 ghost use Rattle.rmx_media.specs.declared.streams.StreamInfo.{StreamInfo as Info};
@@ -14,14 +14,14 @@ ghost use Rattle.tee.specs.Fails.{any_want, failed_slave, stops};
 ghost use Rattle.tee.specs.Fed.{is_stop};
 ghost use Rattle.tee.specs.None.{IsNoneFault};
 ghost use Rattle.tee.specs.Seat.{AreSeats, Seat, IsInput, aborts, first_without};
-ghost use Rattle.tee.specs.Route.{AllFiltered};
+ghost use Rattle.tee.specs.Route.{AllFiltered, filters_in};
 ghost use Rattle.tee.specs.Sits.{AllSit, AllSitOn, deads};
 
 use crate::draft::Draft;
 use crate::ending::end_all;
 use crate::fault::{TeeFault, TeeRefused};
 use crate::fed::Fed;
-use crate::feeding::{filter_all, give_all, is_over};
+use crate::feeding::{filter_all, filters_any, give_all, is_over, pass_all};
 use crate::filter::Filtered;
 use crate::making::{Room, drafts_of, open_all};
 use crate::output::TeeSlave;
@@ -58,7 +58,7 @@ pub struct TeeEnd<S> {
 }
 
 impl<S: Shelf> Tee<S> {
-    ghost use Rattle.tee.specs.Keeps.{Keeps, Stands, dead_in, infos_of, spare_of, stopped_by, stopped_with};
+    ghost use Rattle.tee.specs.Keeps.{Keeps, SameBut, Stands, dead_in, infos_of, spare_of, stopped_by, stopped_with};
 
     // Each output writes what was left of a packet for it.
     fn give(&mut self, p: &Packet, filtered: &[Filtered])
@@ -68,14 +68,53 @@ impl<S: Shelf> Tee<S> {
         ensures sit { (infos : List Info) (given : List Packet) (seats : List Seat) (histories : List History)
             → AllSit S.state infos given seats histories self.old.slaves.items → AllFiltered seats p.now filtered.now
             → AllSitOn S.state infos (given ++ p.now ∷ []) seats histories self.new.slaves.items }
-        ensures len { length self.new.slaves.items ≡ length self.old.slaves.items }
-        ensures given { self.new.given ≡ self.old.given }
-        ensures stopped { self.new.stopped ≡ self.old.stopped }
-        ensures infos { self.new.infos ≡ self.old.infos }
-        ensures spare { self.new.spare ≡ self.old.spare }
-        ensures ends { self.new.ends ≡ self.old.ends }
+        ensures same { SameBut self.old self.new }
     {
         give_all(self.slaves.as_mut_slice(), p, filtered);
+    }
+
+    // Each output that takes a packet writes it. No filters stand for its stream.
+    fn pass(&mut self, p: &Packet)
+        requires number { p.now.stream < 2 }
+        requires plain { list_any (λ slave. filters_in slave.choice p.now.stream) self.old.slaves.items ≡ false }
+        requires ready { (infos : List Info) × (given : List Packet) × (seats : List Seat) × (histories : List History)
+            × AllSit S.state infos given seats histories self.old.slaves.items × IsInput infos p.now × (length given < 2 ^ 61) }
+        ensures sit { (infos : List Info) (given : List Packet) (seats : List Seat) (histories : List History)
+            → AllSit S.state infos given seats histories self.old.slaves.items → IsInput infos p.now
+            → AllSitOn S.state infos (given ++ p.now ∷ []) seats histories self.new.slaves.items }
+        ensures same { SameBut self.old self.new }
+    {
+        pass_all(self.slaves.as_mut_slice(), p);
+    }
+
+    // Gives a packet to all outputs. Where filters stand for its stream it is filtered for each output first, so a refusal of
+    // memory changes nothing.
+    fn hand(&mut self, p: &Packet) -> Result<(), NoMemory>
+        requires few { length self.old.slaves.items ≤ 16 }
+        requires infos { AreInfos (infos_of self.old) }
+        requires taken { IsInput (infos_of self.old) p.now }
+        requires ready { (given : List Packet) × (seats : List Seat) × (histories : List History)
+            × AllSit S.state (infos_of self.old) given seats histories self.old.slaves.items × (length given < 2 ^ 61) }
+        ensures sit { OnOk result ((given : List Packet) (seats : List Seat) (histories : List History)
+            → AllSit S.state (infos_of self.old) given seats histories self.old.slaves.items
+            → AllSitOn S.state (infos_of self.old) (given ++ p.now ∷ []) seats histories self.new.slaves.items) }
+        ensures same { SameBut self.old self.new }
+        ensures err { OnErr result (self.new ≡ self.old) }
+    {
+        if !filters_any(self.slaves.as_slice(), p.stream) {
+            self.pass(p);
+            return Ok(());
+        }
+        let mut filtered = ArrayVec::new();
+        filter_all(
+            self.alloc,
+            self.slaves.as_slice(),
+            &self.infos.as_slice()[p.stream as usize],
+            p,
+            &mut filtered,
+        )?;
+        self.give(p, filtered.as_slice());
+        Ok(())
     }
 
     // Counts a packet that all outputs were given.
@@ -116,15 +155,7 @@ impl<S: Shelf> Tee<S> {
         ensures spare { spare_of self.new ≡ spare_of self.old }
         ensures err { OnErr result (self.new ≡ self.old) }
     {
-        let mut filtered = ArrayVec::new();
-        filter_all(
-            self.alloc,
-            self.slaves.as_slice(),
-            &self.infos.as_slice()[p.stream as usize],
-            p,
-            &mut filtered,
-        )?;
-        self.give(p, filtered.as_slice());
+        self.hand(p)?;
         Ok(self.count())
     }
 

@@ -12,7 +12,7 @@ open_there-requires-clause-ready g c κs within =
 
 pub returns-in-None-clause-open : goal.returns-in-None-clause-open
 returns-in-None-clause-open g c = λ infos script s b.
-    here_open g.row.G.Denot g.S.Shelf.state infos script s c.args.shelf c.open.result (c.open.ensures infos script s b.draft)
+    here_open g.row.G.Denot g.S.Shelf.state infos script s c.args.shelf c.open.result _ (c.open.ensures infos script s b.draft)
     (no_kit g.row.G.Denot infos s s.fifo.use_fifo (subst (λ (o : Option (LaneKit g.row.G.Denot)). IsKitOf infos s o) c.in-None.is b.lane))
 
 pub returns-in-Some-clause-open : goal.returns-in-Some-clause-open

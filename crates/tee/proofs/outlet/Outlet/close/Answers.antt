@@ -15,7 +15,7 @@ close-requires g c =
 pub returns-in-Here : goal.returns-in-Here
 returns-in-Here g c = λ infos given asked seat track a.
     subst (λ (o : Outlet g.row.S.Denot g.row.G.Denot g.S.Shelf). Attends g.S.Shelf.state infos given asked true seat track o) (sym c.in-Here.is)
-    (here_shut g.row.G.Denot g.S.Shelf.state infos given asked seat track c.in-Here.field-0 c.in-Here.field-1
+    (here_shut g.row.G.Denot g.S.Shelf.state infos given asked seat track c.in-Here.field-0 c.in-Here.field-1 c.in-Here.field-2
     (subst (λ (o : Outlet g.row.S.Denot g.row.G.Denot g.S.Shelf). Attends g.S.Shelf.state infos given asked false seat track o) c.in-Here.is a))
 
 pub returns-in-There : goal.returns-in-There
