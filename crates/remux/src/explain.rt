@@ -1,21 +1,57 @@
-// What is said to people, on standard error. No promise speaks of it.
+// What is said to people, on standard error. No promise speaks of it; docs/FORMATS.md has the form of its lines.
 use crate::help::wrong_word;
 use crate::run::Outcome;
 use crate::status::{Ending, Refusal, Status};
 use fifo_core::{EndState, Fate};
+use options::read_words;
+use rmx_edge::DirShelf;
 use slave::{Run, SlaveEnd};
+use std::alloc::Global;
 use std::io;
+use std::rt::Files;
 
-/// Says how a run ended that has no good end, with the system's own words where it has some, and which packets each output
-/// lacks and why. Nothing is said where all is well.
-pub fn explain<R: Eprint, S>(
+/// Says how a run ended that has no good end, with the system's own words where it has some, and, where an output isn't whole,
+/// which packets each has and lacks, and why. Nothing is said where all is well.
+pub fn explain<R: Files + Eprint + Drop>(
+    alloc: Global,
     rt: &R,
     words: &[String],
-    outcome: &Outcome<S>,
-    error: Option<&io::Error>,
+    outcome: &Outcome<DirShelf<R>>,
+    input_error: Option<&io::Error>,
+) -> io::Result<()>
+where
+    R::File: Drop,
+{
+    explain_status(rt, words, outcome.status, input_error)?;
+    let ends = outcome.ends.as_slice();
+    if ends
+        .iter()
+        .all(|end| is_whole(end.state, end.fates.as_slice()))
+    {
+        return Ok(());
+    }
+    let plan = read_words(alloc, words);
+    for (slave, end) in ends.iter().enumerate() {
+        if let Ok(plan) = &plan
+            && let Some(said) = plan.slaves.as_slice().get(slave)
+        {
+            eprintln!(rt; "remux: output {slave} is {}", said.name.as_str())?;
+        }
+        explain_state(rt, slave, end)?;
+        explain_fates(rt, slave, end.fates.as_slice())?;
+    }
+    Ok(())
+}
+
+// Says how a run ended, but for its outputs.
+fn explain_status<R: Eprint>(
+    rt: &R,
+    words: &[String],
+    status: Status,
+    input_error: Option<&io::Error>,
 ) -> io::Result<()> {
-    match (outcome.status, error) {
-        (Status::Done, _) => {}
+    match (status, input_error) {
+        (Status::Done, _) => Ok(()),
         (Status::Words(fault), _) => {
             let word = match usize::try_from(fault.word) {
                 Ok(at) if at < words.len() => words[at].as_str(),
@@ -26,101 +62,130 @@ pub fn explain<R: Eprint, S>(
                 fault.word,
                 wrong_word(fault.kind)
             )?;
-            eprintln!(rt; "remux: try 'remux --help'")?;
+            eprintln!(rt; "remux: try 'remux --help'")
         }
-        (Status::SlaveFailed(slave), Some(error)) => {
-            eprintln!(rt; "remux: output {slave} could not be written whole: {error}")?
-        }
-        (Status::SlaveFailed(slave), None) => {
-            eprintln!(rt; "remux: output {slave} could not be written whole")?
+        (Status::SlaveFailed(slave), _) => {
+            eprintln!(rt; "remux: output {slave} could not be written whole")
         }
         (Status::InputRefused(Refusal::NoneSelected(slave)), _) => {
-            eprintln!(rt; "remux: output {slave} takes none of the input's streams")?
+            eprintln!(rt; "remux: output {slave} takes none of the input's streams")
         }
-        (status, Some(error)) => eprintln!(rt; "remux: {}: {error}", sentence(status))?,
-        (status, None) => eprintln!(rt; "remux: {}", sentence(status))?,
+        (Status::InputFault, Some(error)) => {
+            eprintln!(rt; "remux: {}: {error}", sentence(status))
+        }
+        _ => eprintln!(rt; "remux: {}", sentence(status)),
     }
-    for (slave, end) in outcome.ends.as_slice().iter().enumerate() {
-        explain_end(rt, slave, end)?;
-    }
-    Ok(())
 }
 
-// Says how an output ended that isn't whole.
-fn explain_end<R: Eprint, S>(rt: &R, slave: usize, end: &SlaveEnd<S>) -> io::Result<()> {
-    match end.state {
-        EndState::Closed => {}
-        EndState::Failed => eprintln!(rt; "remux: output {slave} failed")?,
-        EndState::NoMemory => eprintln!(rt; "remux: output {slave} wanted memory")?,
+// Whether an output ended well and lacks nothing.
+fn is_whole(state: EndState, fates: &[Run]) -> bool {
+    let written = fates.iter().all(|run| matches!(run.fate, Fate::Written(_)));
+    written && state == EndState::Closed
+}
+
+// Says how an output ended, with the system's own words for its last fault.
+fn explain_state<R: Files + Eprint + Drop>(
+    rt: &R,
+    slave: usize,
+    end: &SlaveEnd<DirShelf<R>>,
+) -> io::Result<()>
+where
+    R::File: Drop,
+{
+    match (end.state, end.shelf.last_error()) {
+        (EndState::Closed, None) => Ok(()),
+        (EndState::Closed, Some(error)) => {
+            eprintln!(rt; "remux: output {slave} went on after a failure: {error}")
+        }
+        (EndState::Failed, None) => eprintln!(rt; "remux: output {slave} failed"),
+        (EndState::Failed, Some(error)) => eprintln!(rt; "remux: output {slave} failed: {error}"),
+        (EndState::NoMemory, _) => eprintln!(rt; "remux: output {slave} wanted memory"),
     }
-    let mut missing = None;
-    for run in end.fates.as_slice() {
-        missing = join_missing(rt, slave, missing, run)?;
+}
+
+// What became of packets that follow one another.
+#[derive(Clone, Copy, PartialEq, Eq)]
+enum Kind {
+    // They are written, in the session of that number.
+    Written(u64),
+    // They are missing, for this cause.
+    Missing(&'static str),
+}
+
+// Packets that follow one another and have one kind.
+#[derive(Clone, Copy)]
+struct Stretch {
+    kind: Kind,
+    first: u64,
+    last: u64,
+}
+
+// Says which packets an output has and lacks, and why.
+fn explain_fates<R: Eprint>(rt: &R, slave: usize, fates: &[Run]) -> io::Result<()> {
+    let mut told = None;
+    for run in fates {
+        told = Some(join_run(rt, slave, told, stretch_of(run))?);
     }
-    match missing {
-        Some(last) => tell_missing(rt, slave, last),
+    match told {
+        Some(last) => tell_stretch(rt, slave, last),
         None => Ok(()),
     }
 }
 
-// Packets one after another that an output lacks for one cause.
-#[derive(Clone, Copy)]
-struct Missing {
-    first: u64,
-    last: u64,
-    cause: &'static str,
-}
-
-// What is missing with one run more. Where that doesn't go on, what was missing before is told.
-fn join_missing<R: Eprint>(
+// A stretch with one more behind it. Where that doesn't go on with it, the one before is told.
+fn join_run<R: Eprint>(
     rt: &R,
     slave: usize,
-    before: Option<Missing>,
-    run: &Run,
-) -> io::Result<Option<Missing>> {
-    let here = missing_in(run);
-    match (before, here) {
-        (Some(old), Some(new))
-            if old.cause == new.cause && old.last.saturating_add(1) == new.first => {
-            Ok(Some(Missing {
-                first: old.first,
-                last: new.last,
-                cause: old.cause,
-            }))
-        }
-        (Some(old), here) => {
-            tell_missing(rt, slave, old)?;
-            Ok(here)
-        }
-        (None, here) => Ok(here),
+    before: Option<Stretch>,
+    next: Stretch,
+) -> io::Result<Stretch> {
+    let Some(before) = before else {
+        return Ok(next);
+    };
+    if before.kind == next.kind && before.last.saturating_add(1) == next.first {
+        return Ok(Stretch {
+            kind: before.kind,
+            first: before.first,
+            last: next.last,
+        });
+    }
+    tell_stretch(rt, slave, before)?;
+    Ok(next)
+}
+
+fn stretch_of(run: &Run) -> Stretch {
+    let kind = match run.fate {
+        Fate::Written(session) => Kind::Written(session),
+        Fate::Refused(_) => Kind::Missing("its queue was full"),
+        Fate::Flushed(_) => Kind::Missing("dropped after its queue was full"),
+        Fate::KeyWait => Kind::Missing("it waits for a key packet"),
+        Fate::Lost(_) => Kind::Missing("it failed, or waits before it tries again"),
+        Fate::AfterFailure(_) => Kind::Missing("it was given up after a failure"),
+        Fate::NoMemory => Kind::Missing("there wasn't enough memory"),
+    };
+    Stretch {
+        kind,
+        first: run.first,
+        last: run.first.saturating_add(run.count).saturating_sub(1),
     }
 }
 
-// What is missing by one run.
-fn missing_in(run: &Run) -> Option<Missing> {
-    let cause = match run.fate {
-        Fate::Written(_) => return None,
-        Fate::Refused(_) => "its queue was full",
-        Fate::Flushed(_) => "dropped after its queue was full",
-        Fate::KeyWait => "it waits for a key packet",
-        Fate::Lost(_) => "it failed, or waits before it tries again",
-        Fate::AfterFailure(_) => "it was given up after a failure",
-        Fate::NoMemory => "there wasn't enough memory",
-    };
-    Some(Missing {
-        first: run.first,
-        last: run.first.saturating_add(run.count).saturating_sub(1),
-        cause,
-    })
-}
-
-// Says which packets an output lacks, and why.
-fn tell_missing<R: Eprint>(rt: &R, slave: usize, missing: Missing) -> io::Result<()> {
-    let Missing { first, last, cause } = missing;
+// Says that an output has these packets, and in which session, or lacks them, and why.
+fn tell_stretch<R: Eprint>(rt: &R, slave: usize, stretch: Stretch) -> io::Result<()> {
+    let Stretch { kind, first, last } = stretch;
     let count = last.saturating_sub(first).saturating_add(1);
-    eprintln!(rt;
-        "remux: output {slave} lacks packets {first} to {last} ({count} packets): {cause}"
-    )
+    match kind {
+        Kind::Written(session) => {
+            eprintln!(rt;
+                "remux: output {slave} has packets {first} to {last} ({count} packets): session {session}"
+            )
+        }
+        Kind::Missing(cause) => {
+            eprintln!(rt;
+                "remux: output {slave} lacks packets {first} to {last} ({count} packets): {cause}"
+            )
+        }
+    }
 }
 
 fn sentence(status: Status) -> &'static str {

@@ -6,13 +6,15 @@ pub const VERSION: &str = "remux 0.2.0\n";
 
 /// What the program answers where it is asked for help.
 pub const HELP: &str = "\
-usage: remux -i INPUT.flv [-max_interleave_delta MICROSECONDS] [-max_input_bytes N] -f FORMAT OUTPUT
-       remux -i INPUT.flv -f tee OUTPUTS
+usage: remux -i INPUT [-max_interleave_delta N] [-max_input_bytes N] -f FORMAT OUTPUT
+       remux -i INPUT [-max_interleave_delta N] [-max_input_bytes N] -f tee OUTPUTS
        remux generate N
+       remux --help | --version
 
-Copies the AVC video and AAC audio of an FLV file into other files. Nothing is decoded.
+Copies the AVC video and AAC audio of an FLV file into other files. Nothing is decoded. An existing file is overwritten,
+but for the input and the files of other outputs. The man page remux(1) says more.
 
-  -i INPUT                  the file that is read
+  -i INPUT                  the file that is read, as talk.flv or /dev/stdin
   -f FORMAT                 adts, flv, mpegts or segment: one output, named by the last word
   -f tee                    up to 16 outputs, described by the last word (below)
   -max_interleave_delta N   for how long, in microseconds of stream time, one stream may hold up the other;
@@ -20,7 +22,7 @@ Copies the AVC video and AAC audio of an FLV file into other files. Nothing is d
   -max_input_bytes N        how many bytes of the input are read at most, 9 to 2^40, default 2^40
 
 OUTPUTS are separated by |. Each is [OPTION=VALUE:OPTION=VALUE..]NAME. A backslash takes the next character as it is,
-and quotes ' take all up to the next quote.
+and quotes ' take all up to the next quote. For 0|1 false|true will do.
 
   f=FORMAT                  adts, flv, mpegts or segment; needed
   select=STREAMS            v, a, 0 or 1, separated by commas: which streams are taken; default all
@@ -34,9 +36,11 @@ and quotes ' take all up to the next quote.
     queue_bytes=N           how many bytes may wait, 0 to 2^40; 0 is no bound, default 0
     drop_pkts_on_overflow=0|1  whether packets are dropped where the queue is full, in place of waiting; default 0
     attempt_recovery=0|1    whether the output begins again in a new file after a failure; default 0
-    max_recovery_attempts=N how often in a row; 0 is no limit, default 0
-    recovery_wait_time=MS   for how long, in milliseconds of stream time, it waits before that; default 0
+    max_recovery_attempts=N how often in a row, 0 to 4294967295; 0 is no limit, default 0
+    recovery_wait_time=MS   for how long, in milliseconds of stream time, it waits before that; 0 to 10^9, default 0
     restart_with_keyframe=0|1  whether it begins again at a key packet; default 0
+
+An output that begins again writes NAME~1, then NAME~2. Without a wait each packet is an attempt with a file of its own.
 
 Segments are numbered files, cut at key packets: their name has one %d, as in part%03d.ts (%% is a percent sign).
 

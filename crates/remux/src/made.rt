@@ -2,12 +2,11 @@
 ghost use Rattle.std.specs.Prelude.{◌≡◌, ◌<◌};
 
 use super::worked::{
-    AUDIO, SEQUENCE_END, SETS, SOUND, Tag, VIDEO, add_tag, file, input, shelves, text_of,
+    AUDIO, Ran, SEQUENCE_END, SETS, SOUND, Tag, VIDEO, add_tag, file, input, run_with, shelf_of,
+    text_of,
 };
-use crate::run::{Outcome, run_plan};
 use crate::status::Status;
-use options::{Source, read_words};
-use rmx_edge::MemShelf;
+use rmx_edge::{MemShelf, MemSink};
 use std::alloc::Global;
 use std::test::Fail;
 
@@ -41,39 +40,65 @@ fn wanted(alloc: Global, count: u32) -> Result<Vec<u8>, Fail> {
     Ok(text)
 }
 
-// A run over the text of so many pictures, to a file of FLV and one of MPEG-TS.
-fn run_made(alloc: Global, count: u32) -> Result<Outcome<MemShelf>, Fail> {
-    let outputs = "[f=flv]g.flv|[f=mpegts]g.ts";
-    let mut words = Vec::new(alloc);
-    for word in ["-i", "in.flv", "-f", "tee", outputs] {
-        words.push(String::from_str(alloc, word)?)?;
-    }
-    let Ok(mut plan) = read_words(alloc, &words) else {
-        return Err(Fail::new("no plan"));
-    };
-    plan.source = Source::Generated(count);
-    let mut inputs = input(alloc, &[], Vec::new(alloc), 1)?;
-    let shelves = shelves(alloc, MemShelf::new(alloc))?;
-    Ok(run_plan(alloc, &plan, &mut inputs, shelves))
+// What the words of so many pictures come to. Whoever opened an input would be refused.
+fn run_made(alloc: Global, count: u32) -> Result<Ran, Fail> {
+    let count = format!(in alloc; "{count}")?;
+    let inputs = input(alloc, &[], vec![in alloc; 0]?, 1)?;
+    let out = MemSink::new(Vec::new(alloc));
+    run_with(
+        alloc,
+        &["generate", count.as_str()],
+        inputs,
+        MemShelf::new(alloc),
+        out,
+    )
 }
 
-// The tags, the packets, and the bytes of each output. A file of FLV is the text and the end of its sequence.
+// The tags, the packets, and the segments. A file of FLV is the text and the end of its sequence.
 #[test]
 fn runs(rt: HostRuntime) -> Result<(), Fail> {
     let alloc = rt.alloc();
-    for (count, tags, upto, bytes) in [(1, 5, 3, 152), (26, 74, 72, 13753), (2000, 5481, 5479, 0)] {
-        let outcome = run_made(alloc, count)?;
-        assert_eq!(rt; outcome.status, Status::Done);
-        assert_eq!(rt; (outcome.tags, outcome.upto), (tags, upto));
+    for (count, tags, upto, segments) in [(1, 5, 3, 1), (26, 74, 72, 1), (2000, 5481, 5479, 40)] {
+        let ran = run_made(alloc, count)?;
+        assert_eq!(rt; ran.outcome.status, Status::Done);
+        assert_eq!(rt; (ran.outcome.tags, ran.outcome.upto), (tags, upto));
         let mut text = wanted(alloc, count)?;
         add_tag(&mut text, (VIDEO, 40 * (count - 1), &SEQUENCE_END))?;
-        let flv = outcome.ends.as_slice().first().ok_or("no output")?;
         let whole = Some(("g.flv", text.as_slice(), true));
-        assert_eq!(rt; file(&flv.shelf, 0), whole, "{count}");
-        assert!(rt; bytes == 0 || flv.bytes == bytes, "{count}");
+        assert_eq!(rt; file(shelf_of(&ran, 0)?, 0), whole, "{count}");
+        let shelf = shelf_of(&ran, 2)?;
+        assert_eq!(rt; shelf.take_count(), segments);
+        for at in 0..segments {
+            let name = format!(in alloc; "g{at}.ts")?;
+            let (made, _, closed) = file(shelf, at).ok_or("no such segment")?;
+            assert_eq!(rt; (made, closed), (name.as_str(), true));
+        }
     }
-    let outcome = run_made(alloc, 1)?;
-    let ts = outcome.ends.as_slice().get(1).ok_or("no output")?;
-    assert_eq!(rt; ts.bytes, 940);
+    Ok(())
+}
+
+const REPORT_OF_ONE: &str = "\
+tags 5 packets 3
+discards script=0 unsupported=0 nostream=0 corrupt=0 command=0 seqend=0 repeat=0
+slave 0 closed written=3 refused=0 flushed=0 keywait=0 lost=0 after=0 nomem=0 sessions=1 bytes=152
+slave 1 closed written=3 refused=0 flushed=0 keywait=0 lost=0 after=0 nomem=0 sessions=1 bytes=940
+slave 2 closed written=3 refused=0 flushed=0 keywait=0 lost=0 after=0 nomem=0 sessions=1 bytes=940
+status 0 done
+";
+
+// The report of one picture, a line of that of 26, and that 2000 have the same report each time.
+#[test]
+fn reports(rt: HostRuntime) -> Result<(), Fail> {
+    let alloc = rt.alloc();
+    let ran = run_made(alloc, 1)?;
+    assert_eq!(rt; ran.report.as_slice(), REPORT_OF_ONE.as_bytes());
+    let ran = run_made(alloc, 26)?;
+    let report = str::from_utf8(&ran.report).unwrap_or("");
+    assert!(rt; report.contains("slave 0 closed written=72 "), "{report}");
+    assert!(rt; report.contains(" sessions=1 bytes=13753\n"), "{report}");
+    let ran = run_made(alloc, 2000)?;
+    let again = run_made(alloc, 2000)?;
+    assert!(rt; ran.report.ends_with(b"\nstatus 0 done\n"));
+    assert_eq!(rt; ran.report, again.report);
     Ok(())
 }

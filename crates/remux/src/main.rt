@@ -8,6 +8,8 @@ mod carry;
 mod demux;
 mod ending;
 mod explain;
+#[cfg(test)]
+mod gates;
 mod generate;
 mod give;
 mod help;
@@ -17,10 +19,15 @@ mod made;
 mod mishaps;
 mod outputs;
 mod probe;
+mod progress;
 mod pump;
 mod read;
+#[cfg(test)]
+mod recovered;
 mod report;
 mod run;
+#[cfg(test)]
+mod schedules;
 mod status;
 mod take;
 #[cfg(test)]
@@ -31,11 +38,12 @@ mod worked;
 
 use explain::explain;
 use help::{HELP, VERSION};
+use progress::{Watched, Wiping};
 use rmx_edge::{Claim, DirShelf, FileInputs, OpenGate, Shelf, StdSink, claims};
-use run::Outcome;
 use slave::ThreadSpawner;
 use status::Status;
 use std::alloc::{AllocError, Global};
+use std::io::IsTerminal;
 use std::process::ExitCode;
 use std::rt::Files;
 use std::sync::Arc;
@@ -45,8 +53,18 @@ use threaded::run;
 /// The shelves of a run.
 const SHELVES: usize = 16;
 
+/// A block that the C library takes from the system and not from its heap.
+const LARGE_BLOCK: usize = 1024 * 1024;
+
 /// What is reported where a word isn't UTF-8 text.
 const NOT_UTF8: &str = "status 1 words fault=1 word=0\n";
+
+// Has the C library keep freed memory for the next piece of the input. It hands a free end of the heap of more than 128 KiB back to
+// the system, and would so take and return the same pages all the time; once a large block was freed it keeps up to twice as
+// much (mallopt(3), M_MMAP_THRESHOLD). No page of this block is touched.
+fn keep_freed_memory(alloc: Global) {
+    drop(Vec::<u8>::with_capacity(alloc, LARGE_BLOCK));
+}
 
 // The shelves of a run, which write real files. Each has a claim of its own.
 fn shelves<R: Files + Clone + Drop>(
@@ -69,23 +87,11 @@ where
     Ok(shelves)
 }
 
-// The system's words for what stopped a run.
-fn system_error<'a, R: Files + Drop>(
-    inputs: &'a FileInputs<R>,
-    outcome: &'a Outcome<DirShelf<R>>,
-) -> Option<&'a io::Error>
-where
-    R::File: Drop,
-{
-    match outcome.status {
-        Status::InputFault => inputs.last_error(),
-        Status::SlaveFailed(slave) => outcome
-            .ends
-            .as_slice()
-            .get(slave as usize)?
-            .shelf
-            .last_error(),
-        _ => None,
+// Prints a text, as alone `--help` and `--version` do. One that can't be written ends as a report does that can't.
+fn print_text<R: Print>(rt: &R, text: &str) -> ExitCode {
+    match rt.print(text) {
+        Ok(()) => ExitCode::SUCCESS,
+        Err(_) => ExitCode::from(Status::ReportFault.number()),
     }
 }
 
@@ -94,30 +100,30 @@ fn main(rt: HostRuntime) -> io::Result<ExitCode> {
     let words: Vec<String> = match env::args(&rt) {
         Ok(args) => args.skip(1).collect(alloc)?,
         Err(error) if error.kind() == io::ErrorKind::InvalidData => {
-            rt.print(NOT_UTF8)?;
-            rt.eprintln("remux: the words must be UTF-8 text")?;
+            // The status stays, also where neither text is taken.
+            let _ = rt.print(NOT_UTF8);
+            let _ = rt.eprintln("remux: the words must be UTF-8 text");
             return Ok(ExitCode::from(1));
         }
         Err(error) => return Err(error),
     };
     match words.as_slice() {
         [word] if word.as_str() == "--help" || word.as_str() == "-h" => {
-            rt.print(HELP)?;
-            return Ok(ExitCode::SUCCESS);
+            return Ok(print_text(&rt, HELP));
         }
-        [word] if word.as_str() == "--version" => {
-            rt.print(VERSION)?;
-            return Ok(ExitCode::SUCCESS);
-        }
+        [word] if word.as_str() == "--version" => return Ok(print_text(&rt, VERSION)),
         _ => {}
     }
+    keep_freed_memory(alloc);
     let mut claims = claims(alloc, SHELVES + 1)?;
     let shelves = shelves(alloc, &rt, &mut claims)?;
     let Some(claim) = claims.pop() else {
         return Err(io::Error::from(AllocError));
     };
-    let mut inputs = FileInputs::new(rt.clone()?, claim);
-    let mut out = StdSink::new(rt.clone()?);
+    let waits = rt.stderr().is_terminal();
+    let files = FileInputs::new(rt.clone()?, claim);
+    let mut inputs = Watched::new(files, rt.clone()?, waits);
+    let mut out = Wiping::new(StdSink::new(rt.clone()?), rt.clone()?, waits);
     let gate = Arc::new(alloc, OpenGate)?;
     let outcome = run(
         &rt,
@@ -128,11 +134,13 @@ fn main(rt: HostRuntime) -> io::Result<ExitCode> {
         gate,
         &mut ThreadSpawner::new(),
     );
-    explain(
+    // The status is the run's, also where standard error takes nothing.
+    let _ = explain(
+        alloc,
         &rt,
         words.as_slice(),
         &outcome,
-        system_error(&inputs, &outcome),
-    )?;
+        inputs.inner().last_error(),
+    );
     Ok(ExitCode::from(outcome.status.number()))
 }

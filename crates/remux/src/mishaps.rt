@@ -1,8 +1,7 @@
 // Worked examples over memory: what the words come to where calls fail.
 use super::worked::{
-    A21, A22, A23, ADTS, AUDIO, FRAME21, KEY, PICTURE, SEQUENCE_END, SETS, SOUND, TWO_FRAMES, Tag,
-    VIDEO, add_tag, file, input, is_nothing, run_on, run_tee, run_with, sample_text, shelf_of,
-    short_text, text_of,
+    ADTS, FRAME21, SEQUENCE_END, TWO_FRAMES, VIDEO, add_tag, file, input, is_nothing, run_on,
+    run_tee, run_with, sample_text, shelf_of, short_text,
 };
 use crate::SHELVES;
 use crate::status::{Ending, Refusal, Status};
@@ -10,10 +9,6 @@ use fifo_core::{EndState, Fate};
 use rmx_edge::{FailAt, MemShelf, MemSink};
 use slave::{FaultAt, FaultNote, Run, SessionNote};
 use std::test::Fail;
-
-const FRAME22: [u8; 8] = [0xFF, 0xF1, 0x50, 0x80, 0x01, 0x1F, 0xFC, 0x22];
-
-const FRAME23: [u8; 8] = [0xFF, 0xF1, 0x50, 0x80, 0x01, 0x1F, 0xFC, 0x23];
 
 // An output that is dead from the beginning stops the reading of a long text in its first pieces.
 #[test]
@@ -219,29 +214,4 @@ fn a_dead_one(rt: HostRuntime) -> Result<(), Fail> {
     assert_eq!(rt; file(&end.shelf, 0), Some(("y.aac", [].as_slice(), true)));
     assert_eq!(rt; ran.outcome.spare.as_slice().len(), SHELVES - 2);
     Ok(())
-}
-
-fn written(session: u64, first: u64, count: u64) -> Run {
-    Run {
-        fate: Fate::Written(session),
-        first,
-        count,
-    }
-}
-
-fn fault(session: u64, at: FaultAt, before: u64) -> FaultNote {
-    FaultNote {
-        session,
-        at,
-        before,
-        after: before.saturating_add(1),
-    }
-}
-
-fn note(number: u64, begun: bool, closed: bool) -> SessionNote {
-    SessionNote {
-        number,
-        begun,
-        closed,
-    }
 }

@@ -495,6 +495,29 @@ fn pictures(rt: HostRuntime) -> Result<(), Fail> {
     Ok(())
 }
 
+// Pictures without any sound, though the header speaks of both: each packet goes out at once.
+#[test]
+fn pictures_alone(rt: HostRuntime) -> Result<(), Fail> {
+    let alloc = rt.alloc();
+    let tags: [Tag; 5] = [
+        (VIDEO, 0, &SETS),
+        (VIDEO, 0, &KEY),
+        (VIDEO, 40, &PICTURE),
+        (VIDEO, 80, &PICTURE),
+        (VIDEO, 80, &SEQUENCE_END),
+    ];
+    let text = text_of(alloc, 5, &tags[..4])?;
+    let wanted = text_of(alloc, 1, &tags)?;
+    let ran = run_tee(alloc, "[f=flv]o.flv", &text, MemShelf::new(alloc))?;
+    assert_eq!(rt; ran.outcome.status, Status::Done);
+    assert_eq!(rt; (ran.outcome.tags, ran.outcome.upto), (4, 3));
+    assert_eq!(rt; bytes_of(&ran, 0), Some(wanted.as_slice()));
+    let ran = run_tee(alloc, "[f=flv]o.flv", &text, MemShelf::dead(alloc))?;
+    assert_eq!(rt; ran.outcome.status, Status::SlaveFailed(0));
+    assert_eq!(rt; (ran.outcome.tags, ran.outcome.upto), (2, 1));
+    Ok(())
+}
+
 // Which streams an output takes, and what its filters leave of a packet.
 #[test]
 fn selected(rt: HostRuntime) -> Result<(), Fail> {
