@@ -1,7 +1,8 @@
 -- What clauses see of inputs in memory.
-use Rattle.std.specs.Prelude.{ℕ, Bool, ◌&&◌, List, length, drop, Some, is_some, ◌==◌}
+use Rattle.std.specs.Prelude.{◌≡◌, ℕ, Bool, ◌&&◌, List, length, drop, Some, is_some, ◌==◌}
 use Rattle.std.specs.List.{list_any}
 use Rattle.rmx_edge.specs.declared.mem_inputs.MemInputs.{MemInputs}
+use Rattle.rmx_edge.specs.Count.{raised}
 use Rattle.rmx_edge.specs.Files.{file_of, bytes_at}
 use Rattle.rmx_edge.specs.Inputs.{InputState}
 
@@ -41,3 +42,9 @@ most_of s = s.most
 -- whether the next call is to fail
 abbrev pub fails_next : MemInputs → Bool
 fails_next s = list_any (λ n. n == s.calls) s.fails.items
+
+-- one more call was made; the calls that are to fail, and the most that a read gives, stay
+pub record GoesOn (old new : MemInputs) : Type 0 where
+  pub calls : calls_of new ≡ raised (calls_of old) 1
+  pub listed : listed new ≡ listed old
+  pub most : most_of new ≡ most_of old

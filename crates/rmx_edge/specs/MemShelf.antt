@@ -41,3 +41,8 @@ keep_next s = keep_of s.fails.items s.calls
 -- a write that failed kept so much of its piece, or nothing where memory was refused
 abbrev pub KeepsFirst : ℕ → List ℕ → List ShelfTake → List ShelfTake → Type 0
 KeepsFirst count piece old new = (new ≡ after_call (Write (take count piece)) old) ⊎ (new ≡ old)
+
+-- which calls are to fail stays
+pub record FailsAsBefore (old new : MemShelf) : Type 0 where
+  pub listed : listed new ≡ listed old
+  pub dead : is_dead new ≡ is_dead old

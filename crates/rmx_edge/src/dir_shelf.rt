@@ -1,5 +1,5 @@
 // Files of the file system as a shelf.
-ghost use Rattle.std.specs.Prelude.{◌≡◌, None, is_some, false};
+ghost use Rattle.std.specs.Prelude.{◌≡◌, [], None, is_some, false};
 ghost use Rattle.rmx_edge.specs.Faults.{count_of};
 
 use crate::claim::Claim;
@@ -25,6 +25,8 @@ where
     file: Option<R::File>,
     pending: Vec<u8>,
     faults: Faults,
+    // So no byte of a file that was given up gets into the next one.
+    ghost clean: { is_some file ≡ false → pending.items ≡ [] },
 }
 
 impl<R: Files + Drop> DirShelf<R>
@@ -77,6 +79,7 @@ where
     {
         self.claim.release();
         self.file = None;
+        self.pending.clear();
         self.faults.note(error);
         ShelfFault::Failed
     }
@@ -91,7 +94,6 @@ where
     fn create(&mut self, name: &str) -> Result<(), ShelfFault> {
         match self.open(name) {
             Ok(file) => {
-                self.pending.clear();
                 self.file = Some(file);
                 Ok(())
             }

@@ -139,7 +139,7 @@ impl MemShelf {
 impl Shelf for MemShelf {
     ghost use Rattle.std.specs.Prelude.{false, IsOk, IsErrOf, ◌↔◌};
     ghost use Rattle.rmx_edge.specs.Shelf.{Create, Write, Close, Makes, Flushes};
-    ghost use Rattle.rmx_edge.specs.MemShelf.{state_of, shown, fails_next, keep_next, KeepsFirst};
+    ghost use Rattle.rmx_edge.specs.MemShelf.{state_of, shown, fails_next, keep_next, KeepsFirst, FailsAsBefore};
 
     ghost state = { state_of };
 
@@ -147,6 +147,7 @@ impl Shelf for MemShelf {
         requires { (state_of self.old).writing ≡ false }
         ensures made { Makes (Create name.now) result (state_of self.old) (state_of self.new) }
         ensures exact { IsErrOf result ShelfFault.Failed ↔ (fails_next self.old ≡ true) }
+        ensures fails { FailsAsBefore self.old self.new }
     {
         let failing = self.fails_now();
         self.calls = self.calls.saturating_add(1);
@@ -170,6 +171,7 @@ impl Shelf for MemShelf {
         requires { (state_of self.old).writing ≡ true }
         ensures made { Makes (Write bytes.now) result (state_of self.old) (state_of self.new) }
         ensures exact { IsErrOf result ShelfFault.Failed ↔ (fails_next self.old ≡ true) }
+        ensures fails { FailsAsBefore self.old self.new }
         ensures kept { fails_next self.old ≡ true → KeepsFirst (keep_next self.old) bytes.now (shown self.old) (shown self.new) }
     {
         let failing = self.fails_now();
@@ -196,6 +198,7 @@ impl Shelf for MemShelf {
         requires { (state_of self.old).writing ≡ true }
         ensures made { Makes Close result (state_of self.old) (state_of self.new) }
         ensures exact { IsErrOf result ShelfFault.Failed ↔ (fails_next self.old ≡ true) }
+        ensures fails { FailsAsBefore self.old self.new }
     {
         let failing = self.fails_now();
         self.calls = self.calls.saturating_add(1);
@@ -212,6 +215,7 @@ impl Shelf for MemShelf {
         requires { (state_of self.old).writing ≡ true }
         ensures flushed { Flushes result (state_of self.old) (state_of self.new) }
         ensures never { IsOk result }
+        ensures fails { FailsAsBefore self.old self.new }
     {
         Ok(())
     }

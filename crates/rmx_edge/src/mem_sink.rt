@@ -55,7 +55,7 @@ impl MemSink {
 impl Sink for MemSink {
     ghost use Rattle.std.specs.Prelude.{true, length, IsErr, ◌+◌, ◌⊎◌, ◌↔◌};
     ghost use Rattle.rmx_edge.specs.Sink.{Puts};
-    ghost use Rattle.rmx_edge.specs.MemSink.{state_of, fails_next, len_of};
+    ghost use Rattle.rmx_edge.specs.MemSink.{state_of, fails_next, len_of, GoesOn};
 
     ghost state = { state_of };
 
@@ -63,6 +63,7 @@ impl Sink for MemSink {
         ensures put { Puts bytes.now result (state_of self.old) (state_of self.new) }
         ensures exact { IsErr result ↔ ((fails_next self.old ≡ true) ⊎ (8192 < len_of self.old + length bytes.now)) }
         ensures kept { IsErr result → (state_of self.new).bytes ≡ (state_of self.old).bytes }
+        ensures goes_on { GoesOn self.old self.new }
     {
         let failing = self.fails_now();
         self.calls = self.calls.saturating_add(1);

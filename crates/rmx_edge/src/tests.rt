@@ -9,6 +9,7 @@ use std::test::Fail;
 
 #[test]
 fn a_file_is_written(rt: HostRuntime) -> Result<(), Fail> {
+    fs::write(&rt, "a.bin", "what was there is longer")?;
     let mut claims = claims(rt.alloc(), 1)?;
     let claim = claims.pop().ok_or("a claim")?;
     let mut shelf = Counted::new(DirShelf::new(rt.alloc(), rt.clone()?, claim));
