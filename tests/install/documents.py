@@ -66,7 +66,9 @@ def commands(folder, expect):
         (folder / place).mkdir()
     for line in sorted({line for lines in shown.values() for line in lines if "/dev/full" not in line}):
         status, report, said = in_shell(line.replace("/mnt/", "") + (" <talk.flv" if "/dev/stdin" in line else ""), folder)
-        expect(line, (status, last(report), said), (0, "status 0 done", ""))
+        expect(line, (status, last(report), "failed" in report), (0, "status 0 done", False))
+        # An output that drops may lack packets of an input that comes as fast as it is read.
+        expect(f"{line}: sentences", "drop_pkts" in line or said == "", True)
 
 
 def rows(heading=None):
@@ -94,7 +96,7 @@ def examples(folder, expect):
                 line = example if example.startswith("remux") else command(example)
                 line = line.replace("/mnt/share/", "")
                 status, _, said = in_shell(line + " <talk.flv", folder)
-                expect(f"example {example}", (status, said), (0, ""))
+                expect(f"example {example}", (status, "drop_pkts" in example or said == ""), (0, True))
                 # The manual writes an option as `-i`, and a long name apart from its value.
                 expect(f"example {example} in the manual", example in text(MANUAL) or example in ("-i talk.flv", "remux --help"), True)
                 tried += 1
@@ -128,7 +130,7 @@ def same_numbers(expect):
     for heading in ("## Words", "## Several outputs", "### fifo_options", "### Segments"):
         for cells in rows(heading):
             for name in re.findall(r"`(-?[a-z_]+)`", cells[0]):
-                if name in ("generate", "select") or name.startswith(("-h", "--")):
+                if name in ("generate", "select", "bsfs") or name.startswith(("-h", "--")) or ".." in cells[0]:
                     continue
                 wanted = numbers(cells[1] + " " + cells[2])
                 expect(f"numbers of {name} in the help", numbers(in_help(name, told)), wanted)
@@ -208,18 +210,16 @@ def statuses(folder, expect):
     wanting = [one for one in limits if last(one[1]) == "status 6 no memory"]
     expect("status 6", [(status, said.splitlines()[:1]) for status, _, said in wanting][:1], [(6, ["remux: there wasn't enough memory"])])
     for document in (USING, MANUAL, FORMATS):
-        missing = []
-        for line in {line for _, _, line in cases} | {"status 6 no memory"}:
-            words = re.sub(r"\d+$", "K", re.sub(r"status (\d) (refused |ended )?|slave=1|words fault.*", "", line)).replace("slave 0", "slave K")
-            missing += [line] if words.strip() not in text(document).replace("\n.Ar ", " ") else []
-        expect(f"statuses that {document} lacks", missing, [])
+        shown = {re.sub(r"^status \d (?:refused |ended )?", "", line) for _, _, line in cases} | {"no memory"}
+        shown = {re.sub(r"slave(.)\d", r"slave\1K", line) for line in shown if "words" not in line} | {"words fault=F word=W"}
+        expect(f"statuses that {document} lacks", sorted(line for line in shown if line not in text(document)), [])
 
 
 def words_of_the_report(folder, expect):
     """A run in which each word of the report counts something, and each cause is told."""
     odd = [tag(18, 0, b"\2\0\0"), tag(8, 0, SOUND), tag(9, 0, AVC), tag(8, 0, AAC), tag(8, 0, AAC), tag(9, 0, b"\x12\0"), tag(9, 0, b"\x17"),
            tag(9, 0, b"\x52\0")]
-    some = [tag(9, at * 40, (KEY if at % 10 == 0 else b"\x27" + KEY[1:-2] + b"\x41\x88") + bytes(200)[:0]) + tag(8, at * 40, SOUND) for at in range(100)]
+    some = [tag(9, at * 40, KEY if at % 10 == 0 else b"\x27" + KEY[1:-2] + b"\x41\x88") + tag(8, at * 40, SOUND) for at in range(100)]
     (folder / "in.flv").write_bytes(HEADER + b"".join(odd + some) + tag(9, 4000, b"\x17\2\0\0\0"))
     os.mkfifo(folder / "pipe")
     outputs = [
@@ -244,7 +244,7 @@ def words_of_the_report(folder, expect):
     forms = re.findall(r"^remux: output K (\w+)", text(USING), re.MULTILINE)
     expect("forms of sentences in the manual", re.findall(r"^remux: output K (\w+)", text(MANUAL), re.MULTILINE), forms)
     expect("forms of sentences in docs/FORMATS.md", re.findall(r"^remux: output K (\w+)", text(FORMATS), re.MULTILINE), forms)
-    expect("sentences of other forms", sorted({one.split()[3] for one in said.splitlines() if one.split()[1] == "output"} - set(forms)), [])
+    expect("sentences of other forms", sorted({one.split()[3].rstrip(":") for one in said.splitlines()} - set(forms)), [])
 
 
 def links(expect):
