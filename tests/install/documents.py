@@ -210,7 +210,7 @@ def statuses(folder, expect):
     wanting = [one for one in limits if last(one[1]) == "status 6 no memory"]
     expect("status 6", [(status, said.splitlines()[:1]) for status, _, said in wanting][:1], [(6, ["remux: there wasn't enough memory"])])
     for document in (USING, MANUAL, FORMATS):
-        shown = {re.sub(r"^status \d (?:refused |ended )?", "", line) for _, _, line in cases} | {"no memory"}
+        shown = {re.sub(r"^status \d (?:refused )?", "", line) for _, _, line in cases} | {"no memory"}
         shown = {re.sub(r"slave(.)\d", r"slave\1K", line) for line in shown if "words" not in line} | {"words fault=F word=W"}
         expect(f"statuses that {document} lacks", sorted(line for line in shown if line not in text(document)), [])
 
