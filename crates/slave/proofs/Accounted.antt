@@ -10,7 +10,7 @@ use Rattle.fifo_core.specs.declared.types.EndState.TheVariants as ends
 use Rattle.fifo_core.specs.declared.types.Mode.TheVariants.{Live, Dead}
 use Rattle.fifo_core.specs.declared.types.Fate.{Fate}
 use Rattle.fifo_core.specs.declared.types.Fate.TheVariants as fate
-use Rattle.fifo_core.specs.History.{Begun, Tried, Fated, Want, History, fates_of, is_below, notes, since, wanted, mode_of, mode_is_dead, is_live, end_of}
+use Rattle.fifo_core.specs.History.{Begun, Tried, Fated, Want, History, fates_of, is_below, notes, since, session_of, wanted, mode_of, mode_is_dead, is_live, end_of}
 use Rattle.fifo_core.specs.State.{Rises}
 use Rattle.fifo_core.specs.Follows.{Turn, Comes, Flushes}
 use Rattle.fifo_core.specs.Causes.{Caused, Cause, FlushCause, TurnCause, TriedLast, PutFailed, HasTurn, OnlyTried}
@@ -18,16 +18,34 @@ use Rattle.fifo_core.proofs.Caused.{each_caused, dead_number, taken_live}
 use Rattle.rmx_edge.specs.Counted.{with_count}
 use Rattle.rmx_media.specs.declared.packet.Packet.{Packet}
 use Rattle.rmx_media.specs.Packet.{is_restart}
-use Rattle.slave.specs.declared.records.FaultAt.TheVariants.{Put}
+use Rattle.slave.specs.declared.records.FaultAt.TheVariants.{Begin, Put, End}
 use Rattle.slave.specs.declared.records.FaultNote.{FaultNote}
 use Rattle.slave.specs.Origin.{Origin, facts_of, video_of}
 use Rattle.slave.specs.Runs.{expand}
 use Rattle.slave.specs.Table.{StandsAt, turns_from, NotesTell}
 use Rattle.slave.specs.End.{EndView, EndNotes, Ended}
-use Rattle.slave.specs.Accounts.{Has, HasPut, IsHit, MayWait, MayBeLost, MayStand, EndsMeetAccounts}
+use Rattle.slave.specs.Accounts.{Has, HasPut, IsHit, IsLastBefore, MayWait, MayBeLost, MayStand, EndsMeetAccounts}
 use Rattle.slave.proofs.Alive.{Alive, each_alive}
+use Rattle.slave.proofs.Covers.{above_once, rises_above}
+use Rattle.slave.proofs.Settling.{all_settled}
 use Rattle.slave.proofs.Faultless.{notes_rise}
 use Rattle.slave.proofs.Past.{in_turn, has_split, has_front, indexed_within, indexed_has, indexed_once, rises_within, indexed_rises, written_has, has_written, noted, noted_tried, notes_count, note_at_fault, last_fault, get_front, same_number, number_same, test_cases}
+
+-- the notes of writes are those of packets behind packet i
+abbrev PutsAfter : ℕ → List FaultNote → Type 0
+PutsAfter i [] = Unit {0}
+PutsAfter i (n ∷ ns) = ((j : ℕ) → n.at ≡ Put j → i < j) × PutsAfter i ns
+
+puts_push : (i : ℕ) (ns ms : List FaultNote) → PutsAfter i ns → PutsAfter i ms → PutsAfter i (ns ++ ms)
+puts_push i [] ms a b = b
+puts_push i (n ∷ ns) ms a b = (a.0, puts_push i ns ms a.1 b)
+
+puts_get : (i : ℕ) (front back : List FaultNote) (k j : ℕ) (m : FaultNote) → PutsAfter i back → length front ≤ k → slice_get (front ++ back) k ≡ Some m → m.at ≡ Put j → i < j
+puts_get i [] [] k j m a lt at put = absurd (cc at)
+puts_get i [] (n ∷ ns) zero j m a lt at put = (let same : n ≡ m = cc in a.0 j (ap (λ (x : FaultNote). x.at) same ∙ put))
+puts_get i [] (n ∷ ns) (suc k) j m a lt at put = puts_get i [] ns k j m a.1 (omega arith) at put
+puts_get i (x ∷ front) back zero j m a lt at put = absurd (omega (arith, lt))
+puts_get i (x ∷ front) back (suc k) j m a lt at put = puts_get i front back k j m a (omega (arith, lt)) at put
 
 module _ (o : FifoOptions) (ts : List Turn) where
   -- the note at which a packet was lost comes before
@@ -125,19 +143,27 @@ module _ (o : FifoOptions) (ts : List Turn) where
     pub within : (j : ℕ) (u : Fate) → Has (fates_of past) j u → Has (fates_of h) j u
     pub before : (j : ℕ) (u : Fate) → j < i → Has (fates_of h) j u → Has (fates_of past) j u
     pub later : (m j : ℕ) → noted past m ≡ Some j → noted h m ≡ Some j
-    pub told : (ns : List FaultNote) → NotesTell h ns → (ms : List FaultNote) × (rest : List FaultNote) × NotesTell past ms × (ns ≡ ms ++ rest)
+    pub rises : Rises past i
+    pub only : OnlyTried past i
+    -- the notes that came later are those of later packets
+    pub told : (ns : List FaultNote) → NotesTell h ns → (ms : List FaultNote) × (rest : List FaultNote) × NotesTell past ms × (ns ≡ ms ++ rest) × PutsAfter i rest
 
-  told_tried : (s j : ℕ) (facts : PacketFacts) (a : Answer) (h : History) (ns : List FaultNote) → NotesTell (Tried s j facts a ∷ h) ns
-      → (ms : List FaultNote) × (rest : List FaultNote) × NotesTell h ms × (ns ≡ ms ++ rest)
-  told_tried s j facts answer.Done h ns t = (ns, [], t, sym (append-nil ns))
-  told_tried s j facts answer.Fault h ns t = (t.0, t.1 ∷ [], t.5, t.2)
-  told_tried s j facts answer.NoMemory h ns t = (ns, [], t, sym (append-nil ns))
+  told_tried : (s j i : ℕ) (facts : PacketFacts) (a : Answer) (h : History) (ns : List FaultNote) → i < j → NotesTell (Tried s j facts a ∷ h) ns
+      → (ms : List FaultNote) × (rest : List FaultNote) × NotesTell h ms × (ns ≡ ms ++ rest) × PutsAfter i rest
+  told_tried s j i facts answer.Done h ns lt t = (ns, [], t, sym (append-nil ns), tt)
+  told_tried s j i facts answer.Fault h ns lt t = (t.0, t.1 ∷ [], t.5, t.2, (λ k put. behind k put t.4, tt))
+    where
+      behind : (k : ℕ) → t.1.at ≡ Put k → (t.1.at ≡ Put j) ⊎ ((t.1.at ≡ Begin) × (s ≢ session_of h)) → i < k
+      behind k put (inl e) = (let x : Put j ≡ Put k = sym e ∙ put in let same : j ≡ k = cc in omega (arith, same, lt))
+      behind k put (inr b) = (let x : Begin ≡ Put k = sym b.0 ∙ put in absurd (cc x))
+  told_tried s j i facts answer.NoMemory h ns lt t = (ns, [], t, sym (append-nil ns), tt)
 
-  pub found : (h : History) (n i : ℕ) (f : Fate) → Caused o ts h → Alive o h → Rises h n → Has (fates_of h) i f → Found h i f
-  found [] n i f c l r x = absurd x
-  found (Begun a ∷ h) n i f c l r x = absurd (let y : Has [] i f = subst (λ (g : History). Has (fates_of g) i f) c x in y)
-  found (Tried s j facts a ∷ h) n i f c l r x =
-      let d = found h n i f c.1 l r x in
+  pub found : (h : History) (n i : ℕ) (f : Fate) → Caused o ts h → Alive o h → Rises h n → OnlyTried h n → Has (fates_of h) i f → Found h i f
+  found [] n i f c l r only x = absurd x
+  found (Begun a ∷ h) n i f c l r only x = absurd (let y : Has [] i f = subst (λ (g : History). Has (fates_of g) i f) c x in y)
+  found (Tried s j facts a ∷ h) n i f c l r only x =
+      let d = found h n i f c.1 l r only.1 x in
+      let bound = rises_within h n i f r x in
       record {
         past = d.past;
         turn = d.turn;
@@ -148,17 +174,19 @@ module _ (o : FifoOptions) (ts : List Turn) where
         within = d.within;
         before = d.before;
         later = λ m p e. noted_tried s j facts a h m p (d.later m p e);
+        rises = d.rises;
+        only = d.only;
         told = λ ns t.
-            (let y = told_tried s j facts a h ns t in
+            (let y = told_tried s j i facts a h ns (omega (arith, bound, only.0)) t in
             let z = d.told y.0 y.2 in
-            (z.0, z.1 ++ y.1, z.2, y.3 ∙ ap (λ (xs : List FaultNote). xs ++ y.1) z.3 ∙ append_assoc z.0 z.1 y.1));
+            (z.0, z.1 ++ y.1, z.2, y.3 ∙ ap (λ (xs : List FaultNote). xs ++ y.1) z.3 ∙ append_assoc z.0 z.1 y.1, puts_push i z.1 y.1 z.4 y.4));
       }
-  found (Want ∷ h) n i f c l r x =
-      let d = found h n i f c l r x in
-      record { past = d.past; turn = d.turn; has = d.has; cause = d.cause; alive = d.alive; caused = d.caused; within = d.within; before = d.before; later = d.later; told = d.told }
-  found (Fated j u ∷ h) n i f c l r x =
+  found (Want ∷ h) n i f c l r only x =
+      let d = found h n i f c l r only x in
+      record { past = d.past; turn = d.turn; has = d.has; cause = d.cause; alive = d.alive; caused = d.caused; within = d.within; before = d.before; later = d.later; rises = d.rises; only = d.only; told = d.told }
+  found (Fated j u ∷ h) n i f c l r only x =
       elim (has_split (fates_of h) (j, u) i f x) [
-        | inl a ↦ (let d = found h j i f c.1 l.1 r.1 a in
+        | inl a ↦ (let d = found h j i f c.1 l.1 r.1 c.0.3 a in
             let bound = rises_within h j i f r.1 a in
             record {
               past = d.past;
@@ -170,6 +198,8 @@ module _ (o : FifoOptions) (ts : List Turn) where
               within = λ q v y. has_front (fates_of h) (j, u) q v (d.within q v y);
               before = λ q v lt y. elim (has_split (fates_of h) (j, u) q v y) [ inl b ↦ d.before q v lt b | inr e ↦ absurd (omega (arith, e.0, bound, lt)) ];
               later = d.later;
+              rises = d.rises;
+              only = d.only;
               told = d.told;
             })
         | inr b ↦ record {
@@ -182,7 +212,9 @@ module _ (o : FifoOptions) (ts : List Turn) where
           within = λ q v y. has_front (fates_of h) (j, u) q v y;
           before = λ q v lt y. elim (has_split (fates_of h) (j, u) q v y) [ inl z ↦ z | inr e ↦ absurd (omega (arith, e.0, b.0, lt)) ];
           later = λ m p e. e;
-          told = λ ns t. (ns, [], t, sym (append-nil ns));
+          rises = subst (Rises h) b.0 r.1;
+          only = subst (OnlyTried h) b.0 c.0.3;
+          told = λ ns t. (ns, [], t, sym (append-nil ns), tt);
         }
       ]
 
@@ -240,6 +272,14 @@ run_notes h None ns t = (ns, [], t, sym (append-nil ns))
 run_notes h (Some answer.Done) ns t = (ns, [], t, sym (append-nil ns))
 run_notes h (Some answer.Fault) ns t = (t.0, t.1 ∷ [], t.5, t.2)
 run_notes h (Some answer.NoMemory) ns t = (ns, [], t, sym (append-nil ns))
+
+-- the muxer's end is no write of a packet
+end_notes : (i : ℕ) (h : History) (a : Option Answer) (ns : List FaultNote) (t : EndNotes h a ns) → PutsAfter i (run_notes h a ns t).1
+unfolding run_notes
+end_notes i h None ns t = tt
+end_notes i h (Some answer.Done) ns t = tt
+end_notes i h (Some answer.Fault) ns t = (λ j put. (let x : End ≡ Put j = sym t.4 ∙ put in absurd (cc x)), tt)
+end_notes i h (Some answer.NoMemory) ns t = tt
 
 tried_noted : (past : History) (i f : ℕ) → TriedLast past i answer.Fault → f + 1 ≡ notes past → noted past f ≡ Some i
 tried_noted [] i f x e = absurd x
@@ -331,16 +371,25 @@ pub end_wanted : (o : FifoOptions) (h : History) (a : Option Answer) → wanted 
 end_wanted o h None w e = rw w refl
 end_wanted o h (Some b) w e = (let x : true ≡ false = rw w at e in absurd (cc x))
 
+abbrev notes_in : History → ℕ
+notes_in h = notes h
+
+order_of : (i j : ℕ) → (i < j) ⊎ (i ≡ j) ⊎ (j < i)
+order_of zero zero = inr (inl refl)
+order_of zero (suc j) = inl (omega arith)
+order_of (suc i) zero = inr (inr (omega arith))
+order_of (suc i) (suc j) = elim (order_of i j) [ inl a ↦ inl (omega (arith, a)) | inr b ↦ elim b [ inl e ↦ inr (inl (ap suc e)) | inr c ↦ inr (inr (omega (arith, c))) ] ]
+
 -- Fates that are those of a history, but that a run without memory may go on over more packets. Packets have indices by this relation.
 module _ (out : Origin) (o : FifoOptions) (ts : List Turn) (At : ℕ → Packet → Type 0) (h : History) (end : ℕ) (fates : List (ℕ × Fate)) (notes : List FaultNote) (a : Option Answer)
-    (caused : Caused o ts h) (alive : Alive o h) (rises : Rises h end)
+    (caused : Caused o ts h) (alive : Alive o h) (rises : Rises h end) (only : OnlyTried h end)
     (told : (i : ℕ) (f : Fate) → (f ≡ fate.NoMemory → ⊥) → Has fates i f → Has (fates_of h) i f)
     (back : (i : ℕ) (f : Fate) → Has (fates_of h) i f → Has fates i f)
     (packet : (i : ℕ) (facts : PacketFacts) → HasTurn ts (Comes i facts) → (p : Packet) × At i p × (facts ≡ facts_of out p))
     (same_at : (i : ℕ) (p q : Packet) → At i p → At i q → p ≡ q)
     (noted_all : EndNotes h a notes) where
   find : (i : ℕ) (f : Fate) → Has (fates_of h) i f → Found o ts h i f
-  find i f x = found o ts h end i f caused alive rises x
+  find i f x = found o ts h end i f caused alive rises only x
 
   -- the cause of a packet's fate
   packet_cause : (past : History) (i : ℕ) (f : Fate) (t : Turn) → HasTurn ts t → TurnCause o past i t f → ((v : ℕ) → FlushCause o past v f → ⊥)
@@ -386,6 +435,27 @@ module _ (out : Origin) (o : FifoOptions) (ts : List Turn) (At : ℕ → Packet 
         ],
       )
 
+  -- the notes that come behind the last before a packet are those of later packets
+  last_so : (i f : ℕ) (d : Found o ts h i (fate.Lost f)) → Has fates i (fate.Lost f) → f + 1 ≡ notes_in d.past → IsLastBefore fates notes f i
+  last_so i f d x count g j m lt at (inl put) =
+      let run = run_notes h a notes noted_all in
+      let was = d.told run.0 run.2 in
+      let few = notes_count d.past was.0 was.2 in
+      let all : notes ≡ was.0 ++ (was.1 ++ run.1) = run.3 ∙ ap (λ (ns : List FaultNote). ns ++ run.1) was.3 ∙ append_assoc was.0 was.1 run.1 in
+      puts_get i was.0 (was.1 ++ run.1) g j m (puts_push i was.1 run.1 was.4 (end_notes i h a notes noted_all)) (omega (arith, few, count, lt))
+      (subst (λ (ns : List FaultNote). slice_get ns g ≡ Some m) all at) put
+  last_so i f d x count g j m lt at (inr y) =
+      let there = told j (fate.Lost g) (λ e. cc e) y in
+      elim (order_of i j) [
+        | inl less ↦ less
+        | inr more ↦ elim more [
+          | inl same ↦ (let e = above_once 0 (fates_of h) i (fate.Lost f) (fate.Lost g) (rises_above h end rises) (told i (fate.Lost f) (λ z. cc z) x) (subst (λ (k : ℕ). Has (fates_of h) k (fate.Lost g)) (sym same) there) in
+              let number : f ≡ g = cc in
+              absurd (omega (arith, number, lt)))
+          | inr less ↦ (let z = lost_notes o ts d.past j g d.caused (d.before j (fate.Lost g) less there) in absurd (omega (arith, z, count, lt)))
+        ]
+      ]
+
   pub lost_so : (i f : ℕ) (p : Packet) → Has fates i (fate.Lost f) → At i p → MayBeLost o At fates notes i f p
   lost_so i f p x at =
       let d = find i (fate.Lost f) (told i (fate.Lost f) (λ e. cc e) x) in
@@ -407,6 +477,8 @@ module _ (out : Origin) (o : FifoOptions) (ts : List Turn) (At : ℕ → Packet 
                 packet = q.0;
                 at = q.1;
                 hit = n.2;
+                earlier = tries_below o ts d.past i f last.0 d.caused d.rises d.only (last.4 f c.2.1);
+                last = last_so i f d x c.2.1;
                 early = rw (time, ← same) w.1.2;
               }),
             ))
@@ -491,6 +563,7 @@ accounts_met out o L e k =
     let l = each_alive o ts k.history k.follows in
     let r = indexed_rises k.history k.indexed in
     let n = length (fates_of k.history) in
+    let fin = all_settled o n ts k.history k.follows in
     let t : (i : ℕ) (f : Fate) → (f ≡ fate.NoMemory → ⊥) → Has (expand e.fates) i f → Has (fates_of k.history) i f = λ i f other x. told k i f x in
     let s : (i : ℕ) (p q : Packet) → slice_get L i ≡ Some p → slice_get L i ≡ Some q → p ≡ q = λ i p q x y. same_packet (sym x ∙ y) in
     record {
@@ -498,16 +571,16 @@ accounts_met out o L e k =
       covers = λ i lt. (let r = indexed_has 0 (fates_of k.history) i k.indexed (omega arith) (omega (arith, k.count, lt)) in (r.0, back k i r.0 r.1));
       within = λ i f x. (let r = indexed_within 0 (fates_of k.history) i f k.indexed (told k i f x) in omega (arith, r.1, k.count));
       once = λ i f h x y. indexed_once 0 (fates_of k.history) i f h k.indexed (told k i f x) (told k i h y);
-      refused = refused_so out o ts (StandsAt L) k.history n (expand e.fates) e.faults k.end_answer c l r t (back k) (turn_packet out L) s k.notes;
-      flushed = λ i v x. no_flush out 0 L i v (flushed_so out o ts (StandsAt L) k.history n (expand e.fates) e.faults k.end_answer c l r t (back k) (turn_packet out L) s k.notes i v x);
-      key_wait = key_wait_so out o ts (StandsAt L) k.history n (expand e.fates) e.faults k.end_answer c l r t (back k) (turn_packet out L) s k.notes;
-      lost = lost_so out o ts (StandsAt L) k.history n (expand e.fates) e.faults k.end_answer c l r t (back k) (turn_packet out L) s k.notes;
-      after_failure = λ i f x. (let q = failed_so out o ts (StandsAt L) k.history n (expand e.fates) e.faults k.end_answer c l r t (back k) (turn_packet out L) s k.notes i f x in
+      refused = refused_so out o ts (StandsAt L) k.history n (expand e.fates) e.faults k.end_answer c l r fin t (back k) (turn_packet out L) s k.notes;
+      flushed = λ i v x. no_flush out 0 L i v (flushed_so out o ts (StandsAt L) k.history n (expand e.fates) e.faults k.end_answer c l r fin t (back k) (turn_packet out L) s k.notes i v x);
+      key_wait = key_wait_so out o ts (StandsAt L) k.history n (expand e.fates) e.faults k.end_answer c l r fin t (back k) (turn_packet out L) s k.notes;
+      lost = lost_so out o ts (StandsAt L) k.history n (expand e.fates) e.faults k.end_answer c l r fin t (back k) (turn_packet out L) s k.notes;
+      after_failure = λ i f x. (let q = failed_so out o ts (StandsAt L) k.history n (expand e.fates) e.faults k.end_answer c l r fin t (back k) (turn_packet out L) s k.notes i f x in
           (q.0, λ j u lt y. q.1 j u lt (told k j u y)));
       no_memory = λ i x. (
-        k.state ∙ end_wanted o k.history k.end_answer (wanted_so out o ts (StandsAt L) k.history n (expand e.fates) e.faults k.end_answer c l r t (back k) (turn_packet out L) s k.notes i (told k i fate.NoMemory x)) k.end_called,
-        λ j u lt y. want_stays out o ts (StandsAt L) k.history n (expand e.fates) e.faults k.end_answer c l r t (back k) (turn_packet out L) s k.notes i j u (told k i fate.NoMemory x) lt (told k j u y),
+        k.state ∙ end_wanted o k.history k.end_answer (wanted_so out o ts (StandsAt L) k.history n (expand e.fates) e.faults k.end_answer c l r fin t (back k) (turn_packet out L) s k.notes i (told k i fate.NoMemory x)) k.end_called,
+        λ j u lt y. want_stays out o ts (StandsAt L) k.history n (expand e.fates) e.faults k.end_answer c l r fin t (back k) (turn_packet out L) s k.notes i j u (told k i fate.NoMemory x) lt (told k j u y),
       );
       notes = rw k.are_faults (notes_rise out (StandsAt L) out.shelf (with_count e.shelf k.before k.added) k.rows k.chain k.each);
-      restart = restart_so out o ts (StandsAt L) k.history n (expand e.fates) e.faults k.end_answer c l r t (back k) (turn_packet out L) s k.notes;
+      restart = restart_so out o ts (StandsAt L) k.history n (expand e.fates) e.faults k.end_answer c l r fin t (back k) (turn_packet out L) s k.notes;
     }

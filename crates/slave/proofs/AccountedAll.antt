@@ -19,6 +19,7 @@ use Rattle.slave.specs.Accounts.{Has}
 use Rattle.slave.specs.AccountsAll.{SweptAt, MayFlush, EndsMeetAllAccounts}
 use Rattle.slave.proofs.Alive.{Alive, each_alive}
 use Rattle.slave.proofs.Faultless.{notes_rise}
+use Rattle.slave.proofs.Settling.{all_settled}
 use Rattle.slave.proofs.Accounted.{end_wanted, key_wait_so, lost_so, restart_so, failed_so, wanted_so, want_stays, refused_so, flushed_so, turn_so}
 use Rattle.slave.proofs.Covers.{Above, above_once, order_above, rises_above, covered_rises, fates_covered, covered_cases, Climbs, climbs_with, climbs_turn, gives_once, swept_once, swept_apart, comes_given, flushes_given, index_has, has_index, order_within}
 
@@ -69,6 +70,7 @@ all_accounts_met out o T e k =
     let c = caused k in
     let l = each_alive o ts k.history k.follows in
     let r = rises k in
+    let fin = all_settled o n ts k.history k.follows in
     let s : (i : ℕ) (p q : Packet) → Gives T i p → Gives T i q → p ≡ q = λ i p q x y. gives_once 0 T i p q (climbs k) x y in
     record {
       order = k.order;
@@ -76,28 +78,28 @@ all_accounts_met out o T e k =
       once = λ i f h x y. above_once 0 (expand e.fates) i f h (in_order k) x y;
       within = λ i f x. elim (covered_cases k.history i f (tells k i f x)) [
         | inl a ↦ inl (has_index (fates_of k.history) T i f k.indexed a)
-        | inr b ↦ inr (b.0, k.state ∙ end_wanted o k.history k.end_answer (wanted_so out o ts (Gives T) k.history n (expand e.fates) e.faults k.end_answer c l r (told k) (back k) (comes_given out T) s k.notes b.1.0 b.1.2) k.end_called)
+        | inr b ↦ inr (b.0, k.state ∙ end_wanted o k.history k.end_answer (wanted_so out o ts (Gives T) k.history n (expand e.fates) e.faults k.end_answer c l r fin (told k) (back k) (comes_given out T) s k.notes b.1.0 b.1.2) k.end_called)
       ];
-      refused = refused_so out o ts (Gives T) k.history n (expand e.fates) e.faults k.end_answer c l r (told k) (back k) (comes_given out T) s k.notes;
-      flushed = λ i v x. flushes_given out T i v (flushed_so out o ts (Gives T) k.history n (expand e.fates) e.faults k.end_answer c l r (told k) (back k) (comes_given out T) s k.notes i v x);
+      refused = refused_so out o ts (Gives T) k.history n (expand e.fates) e.faults k.end_answer c l r fin (told k) (back k) (comes_given out T) s k.notes;
+      flushed = λ i v x. flushes_given out T i v (flushed_so out o ts (Gives T) k.history n (expand e.fates) e.faults k.end_answer c l r fin (told k) (back k) (comes_given out T) s k.notes i v x);
       swept = λ i v f x y. elim (covered_cases k.history i f (tells k i f y)) [
-        | inl a ↦ (let t = turn_so out o ts (Gives T) k.history n (expand e.fates) e.faults k.end_answer c l r (told k) (back k) (comes_given out T) s k.notes i f a in
+        | inl a ↦ (let t = turn_so out o ts (Gives T) k.history n (expand e.fates) e.faults k.end_answer c l r fin (told k) (back k) (comes_given out T) s k.notes i f a in
             swept_fate k i v f x t.0 t.1 t.2.0 t.2.1)
         | inr b ↦ inr (inr b.0)
       ];
-      key_wait = key_wait_so out o ts (Gives T) k.history n (expand e.fates) e.faults k.end_answer c l r (told k) (back k) (comes_given out T) s k.notes;
-      lost = lost_so out o ts (Gives T) k.history n (expand e.fates) e.faults k.end_answer c l r (told k) (back k) (comes_given out T) s k.notes;
-      after_failure = λ i f x. (let q = failed_so out o ts (Gives T) k.history n (expand e.fates) e.faults k.end_answer c l r (told k) (back k) (comes_given out T) s k.notes i f x in (
+      key_wait = key_wait_so out o ts (Gives T) k.history n (expand e.fates) e.faults k.end_answer c l r fin (told k) (back k) (comes_given out T) s k.notes;
+      lost = lost_so out o ts (Gives T) k.history n (expand e.fates) e.faults k.end_answer c l r fin (told k) (back k) (comes_given out T) s k.notes;
+      after_failure = λ i f x. (let q = failed_so out o ts (Gives T) k.history n (expand e.fates) e.faults k.end_answer c l r fin (told k) (back k) (comes_given out T) s k.notes i f x in (
         q.0,
         λ j u lt y. elim (covered_cases k.history j u (tells k j u y)) [ inl a ↦ q.1 j u lt a | inr b ↦ inr b.0 ],
       ));
       no_memory = λ i x. (let w : (m : ℕ) × (m ≤ i) × Has (fates_of k.history) m fate.NoMemory = elim (covered_cases k.history i fate.NoMemory (tells k i fate.NoMemory x)) [ inl a ↦ (i, omega arith, a) | inr b ↦ b.1 ] in (
-        k.state ∙ end_wanted o k.history k.end_answer (wanted_so out o ts (Gives T) k.history n (expand e.fates) e.faults k.end_answer c l r (told k) (back k) (comes_given out T) s k.notes w.0 w.2) k.end_called,
+        k.state ∙ end_wanted o k.history k.end_answer (wanted_so out o ts (Gives T) k.history n (expand e.fates) e.faults k.end_answer c l r fin (told k) (back k) (comes_given out T) s k.notes w.0 w.2) k.end_called,
         λ j u lt y. elim (covered_cases k.history j u (tells k j u y)) [
-          | inl a ↦ want_stays out o ts (Gives T) k.history n (expand e.fates) e.faults k.end_answer c l r (told k) (back k) (comes_given out T) s k.notes w.0 j u w.2 (omega (arith, w.1, lt)) a
+          | inl a ↦ want_stays out o ts (Gives T) k.history n (expand e.fates) e.faults k.end_answer c l r fin (told k) (back k) (comes_given out T) s k.notes w.0 j u w.2 (omega (arith, w.1, lt)) a
           | inr b ↦ b.0
         ],
       ));
       notes = rw k.are_faults (notes_rise out (Gives T) out.shelf (with_count e.shelf k.before k.added) k.rows k.chain k.each);
-      restart = restart_so out o ts (Gives T) k.history n (expand e.fates) e.faults k.end_answer c l r (told k) (back k) (comes_given out T) s k.notes;
+      restart = restart_so out o ts (Gives T) k.history n (expand e.fates) e.faults k.end_answer c l r fin (told k) (back k) (comes_given out T) s k.notes;
     }

@@ -64,6 +64,12 @@ no_notes a to [] r still = refl
 no_notes a to (n ∷ ns) (low, le, inl lt, rest) still = absurd (still (inl (omega (arith, low, lt, rise_within n.after to ns rest))))
 no_notes a to (n ∷ ns) (low, le, inr e, rest) still = absurd (still (inr (omega (arith, e, le, rise_within n.after to ns rest))))
 
+-- and where there is one, it did
+pub notes_raise : (a to : ℕ) (ns : List FaultNote) → NotesRise a ns to → (ns ≡ [] → ⊥) → Rose a to
+notes_raise a to [] r some = absurd (some refl)
+notes_raise a to (n ∷ ns) (low, le, inl lt, rest) some = inl (omega (arith, low, lt, rise_within n.after to ns rest))
+notes_raise a to (n ∷ ns) (low, le, inr e, rest) some = inr (omega (arith, e, le, rise_within n.after to ns rest))
+
 written_all : (out : Origin) (n : ℕ) (L : List Packet) → written_of L (all_written n (map (facts_of out) L)) ≡ map (λ p. (0, p)) L
 written_all out n [] = refl
 written_all out n (p ∷ L) = ap (λ (xs : List (ℕ × Packet)). (0, p) ∷ xs) (written_all out (n + 1) L)
@@ -134,7 +140,7 @@ holds_all out o L e k no_fault no_want no_list =
     let clean = all_done h told.1 unwanted in
     let whole = is_whole o (map (facts_of out) L) h (subst (λ (ts : List Turn). Follows o ts h) (turns_come out 0 L) k.follows) clean in
     let done = ended_done h k.end_answer (k.end_called ∙ whole.1) told.0 (λ n. fine (k.state ∙ n)) in
-    let closed : r.outcome ≡ Closed = subst (λ (a : Option Answer). EndsAs a r) done k.ends_as in
+    let closed : r.outcome ≡ Closed = subst (λ (a : Option Answer). EndsAs h a r) done k.ends_as in
     let numbers : Numbered 0 (k.front ++ r ∷ []) = rw k.split at k.numbered in
     let number : r.note.number ≡ 0 = k.number ∙ whole.2 in
     let front_is : k.front ≡ [] = no_rows k.front (omega (arith, numbered_last 0 k.front r numbers, number)) in

@@ -90,7 +90,7 @@ ended_closed {out = out} v e k b shut is_b told st =
         split = t.last.split;
         numbered = t.numbered;
         number = t.last.number;
-        ends_as = tt;
+        ends_as = t.last.unended;
         are_sessions = told.sessions ∙ t.are_sessions;
         are_faults = told.faults ∙ t.are_faults;
         counts = k.stands.kit.counts;
@@ -137,7 +137,7 @@ module _ {out : Origin} {o : FifoOptions} {T : List Given} (v w : JobView) (e : 
     (told : EndTells w e) where
   closing : (b : Answer) (q : Row) → Closes out k.stands.table.last.last.first k.stands.table.last.last.written v b w → e.state ≡ end_of k.history (Some b) → is_live o k.history ≡ true
       → q.note.number ≡ k.stands.table.last.last.note.number → q.before ≡ k.stands.table.last.last.before → q.first ≡ k.stands.table.last.last.first → q.after ≡ w.shelf → RowHolds out (Gives T) q
-      → q.written ≡ k.stands.table.last.last.written → EndsAs (Some b) q
+      → q.written ≡ k.stands.table.last.last.written → EndsAs k.history (Some b) q
       → w.sessions ≡ map row_note (k.stands.table.last.front ++ q ∷ []) → w.faults ≡ filter_map row_fault (k.stands.table.last.front ++ q ∷ [])
       → EndNotes k.history (Some b) w.faults → EndedAllBy out o T k.history e
   closing b q c st is_open same_number same_before same_first is_after holds same_written ends_so ss fs ns =

@@ -17,7 +17,7 @@ use Rattle.slave.specs.Given.{Given, Gives, index_of, end_from}
 use Rattle.slave.specs.Runs.{expand, AreInOrder}
 use Rattle.slave.specs.Table.{StandsAt, indices}
 use Rattle.slave.specs.End.{EndView, EndedAll}
-use Rattle.slave.specs.Accounts.{Has, IsHit, IsWaiting, NotesRise, MayWait, MayBeLost, MayStand}
+use Rattle.slave.specs.Accounts.{Has, IsHit, IsLastBefore, IsWaiting, NotesRise, MayWait, MayBeLost, MayStand}
 use Rattle.slave.specs.AccountsAll.{GivesAt, SweptAt, MayFlush, AccountsAll}
 use Rattle.slave.specs.Entered.{entered}
 use Rattle.slave.specs.LaneAccounts.{Names, is_named, unrefused, ReceiptsTell, Stretch, SweptStretch, Dealt, AddsLane, AccountsLane, UnrefusedFollow}
@@ -69,13 +69,16 @@ module _ (g : Origin) (o : FifoOptions) (rs : List ReceiptSide) (old new : List 
   hit_after : (f i : ℕ) (n : FaultNote) → IsHit old f n i → IsHit new f n i
   hit_after f i n k = elim k [ inl a ↦ inl a | inr b ↦ inr (b.0, λ j x. b.1 j (lost_before j f x)) ]
 
+  last_after : (f i : ℕ) → IsLastBefore old notes f i → IsLastBefore new notes f i
+  last_after f i k g j m lt at hits = k g j m lt at (elim hits [ inl a ↦ inl a | inr b ↦ inr (lost_before j g b) ])
+
   lost_after : (At Standing : ℕ → Packet → Type 0) → ((i : ℕ) (p : Packet) → At i p → Standing i p) → (i f : ℕ) (p : Packet) → MayBeLost o At old notes i f p → MayBeLost o Standing new notes i f p
   lost_after At Standing stands i f p k = (
     k.0,
     k.1,
     elim k.2 [
       | inl a ↦ inl (hit_after f i k.0 a)
-      | inr w ↦ inr (record { recovers = w.recovers; waits = w.waits; index = w.index; packet = w.packet; at = stands w.index w.packet w.at; hit = hit_after f w.index k.0 w.hit; early = w.early })
+      | inr w ↦ inr (record { recovers = w.recovers; waits = w.waits; index = w.index; packet = w.packet; at = stands w.index w.packet w.at; hit = hit_after f w.index k.0 w.hit; earlier = w.earlier; last = last_after f i w.last; early = w.early })
     ],
   )
 

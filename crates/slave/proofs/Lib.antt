@@ -22,6 +22,7 @@ pub mod Past
 pub mod Rows
 pub mod Samples
 pub mod Schedules
+pub mod Settling
 pub mod Sound
 pub mod Opening
 pub mod Steps

@@ -42,7 +42,7 @@ first_want {out = out} {o = o} v w k c (inl m) =
     let q : Row = record { note = record { number = session_in v.fifo; begun = false; closed = false }; outcome = NotBegun; fault = None; written = []; before = v.shelf; after = w.shelf; first = number_of v; next = number_of w } in
     record {
       rows = q ∷ [];
-      last = record { front = []; last = q; split = refl; number = k.shows.session; is_open = λ u. absurd (cc u) };
+      last = record { front = []; last = q; split = refl; number = k.shows.session; is_open = λ u. absurd (cc u); unended = tt };
       numbered = (k.shows.session, tt);
       are_sessions = c.sessions ∙ rw k.sessions refl;
       are_faults = m.2 ∙ k.faults;
@@ -62,7 +62,7 @@ first_want {out = out} {o = o} v w k c (inr m) =
     let q : Row = record { note = record { number = session_in v.fifo; begun = false; closed = false }; outcome = NotCalled; fault = None; written = []; before = v.shelf; after = w.shelf; first = number_of v; next = number_of w } in
     record {
       rows = q ∷ [];
-      last = record { front = []; last = q; split = refl; number = k.shows.session; is_open = λ u. absurd (cc u) };
+      last = record { front = []; last = q; split = refl; number = k.shows.session; is_open = λ u. absurd (cc u); unended = tt };
       numbered = (k.shows.session, tt);
       are_sessions = c.sessions ∙ rw k.sessions refl;
       are_faults = m.2 ∙ k.faults;
@@ -86,7 +86,7 @@ first_table {out = out} {o = o} answer.Done v w k c =
     let q : Row = record { note = record { number = s; begun = true; closed = false }; outcome = Open; fault = None; written = []; before = v.shelf; after = w.shelf; first = number_of v; next = number_of w } in
     record {
       rows = q ∷ [];
-      last = record { front = []; last = q; split = refl; number = k.shows.session; is_open = λ _ _. (refl, c.writer refl) };
+      last = record { front = []; last = q; split = refl; number = k.shows.session; is_open = λ _ _. (refl, c.writer refl); unended = tt };
       numbered = (k.shows.session, tt);
       are_sessions = c.sessions ∙ rw k.sessions refl;
       are_faults = c.made.2 ∙ k.faults;
@@ -107,7 +107,7 @@ first_table {out = out} {o = o} answer.Fault v w k c =
     let q : Row = record { note = record { number = session_in v.fifo; begun = false; closed = false }; outcome = NotBegun; fault = Some n; written = []; before = v.shelf; after = w.shelf; first = number_of v; next = number_of w } in
     record {
       rows = q ∷ [];
-      last = record { front = []; last = q; split = refl; number = k.shows.session; is_open = λ _ l. absurd (not_live o (Begun answer.Fault ∷ []) (begun_shut o) l) };
+      last = record { front = []; last = q; split = refl; number = k.shows.session; is_open = λ _ l. absurd (not_live o (Begun answer.Fault ∷ []) (begun_shut o) l); unended = tt };
       numbered = (k.shows.session, tt);
       are_sessions = c.sessions ∙ rw k.sessions refl;
       are_faults = c.made.2 ∙ rw k.faults refl;

@@ -476,7 +476,7 @@ record Plain (o : FifoOptions) (turns : List Turn) (L : List Packet) (e : EndVie
   split : rows ≡ front ++ last ∷ []
   numbered : Numbered 0 rows
   number : last.note.number ≡ session_of history
-  ends_as : EndsAs end_answer last
+  ends_as : EndsAs history end_answer last
   are_sessions : e.sessions ≡ map row_note rows
   are_faults : e.faults ≡ filter_map row_fault rows
   each : AllRows origin (StandsAt L) rows

@@ -1,5 +1,5 @@
 -- What each step does to the table of sessions.
-use Rattle.std.proofs.Common.{◌≡◌, ◌≢◌, ℕ, ◌≤◌, ◌⊎◌, inl, inr, Bool, true, false, List, [], ◌∷◌, ◌++◌, length, flat_map, filter_map, Some, None, refl, ap, sym, ◌∙◌, subst, arith, append_assoc, ◌+◌, length-append}
+use Rattle.std.proofs.Common.{◌≡◌, ◌≢◌, ℕ, ◌≤◌, ◌⊎◌, inl, inr, Bool, true, false, List, [], ◌∷◌, ◌++◌, length, flat_map, filter_map, Option, Some, None, refl, ap, sym, ◌∙◌, subst, arith, append_assoc, ◌+◌, length-append}
 use Rattle.std.proofs.lemmas.List.{append-nil}
 use Rattle.fifo_core.specs.declared.types.FifoOptions.{FifoOptions}
 use Rattle.fifo_core.specs.declared.types.PacketFacts.{PacketFacts}
@@ -26,7 +26,7 @@ use Rattle.slave.specs.Runs.{expand, pushed}
 use Rattle.slave.specs.Given.{Given, Gives, IsGapless}
 use Rattle.slave.specs.Job.{JobView, Writer, WriterAfter, SoundStays, note_at, number_of, Opens, Puts, OpensAndPuts, ShelfWants, ListWants}
 use Rattle.slave.proofs.CallsLemmas.{done_joined, numbers_after, number_then, first_puts, no_puts, sound_then}
-use Rattle.slave.specs.Table.{Outcome, Open, NotCalled, NotBegun, PutFailed, Row, calls_of, LeftBy, RowHolds, AllRows, Chain, GoesOnFrom, Numbers, row_note, row_fault, row_packets, if_given, written_among, covered, NotesTell, Table, ahead_of, Numbered}
+use Rattle.slave.specs.Table.{Outcome, Open, NotCalled, NotBegun, PutFailed, EndFailed, Closed, WantedAt, Unended, Row, calls_of, LeftBy, RowHolds, AllRows, Chain, GoesOnFrom, Numbers, row_note, row_fault, row_packets, if_given, written_among, covered, NotesTell, Table, ahead_of, Numbered}
 use Rattle.slave.proofs.Rows.{map_push, faults_push_none, faults_push_some, packets_push, puts_push, chain_next, chain_last, chain_end, segments_next, segments_last, segments_end, rows_push, rows_front, rows_last, rows_other, gives_more, gapless_front, written_more, written_push, open_no_fault, numbered_push, numbered_last, numbered_front}
 
 -- a live output tries the session that is open
@@ -39,6 +39,16 @@ fault_closes o h s i facts = closed o (streak h) (notes h)
 
 pub not_live : (o : FifoOptions) (h : History) → mode_is_live (mode_of o h) ≡ false → mode_of o h ≡ Live → ⊥
 not_live o h e d = let t : true ≡ false = rw d at e in cc t
+
+-- what is said of a session before its end holds of a longer history too
+unended_more : (h g : History) → ((i : ℕ) → WantedAt h i → WantedAt g i) → (x : Outcome) (n : Option FaultNote) → Unended h x n → Unended g x n
+unended_more h g more Open n k = tt
+unended_more h g more NotCalled n k = tt
+unended_more h g more NotBegun n k = tt
+unended_more h g more (PutFailed i p) (Some n) k = tt
+unended_more h g more (PutFailed i p) None k = more i k
+unended_more h g more EndFailed n k = absurd k
+unended_more h g more Closed n k = absurd k
 
 -- what comes later changes nothing
 pub widened : {out : Origin} {o : FifoOptions} {T : List Given} {h : History} {shelf : ShelfState} {writer : Writer} {runs : List Run} {sessions : List SessionNote} {faults : List FaultNote}
@@ -69,7 +79,7 @@ pub recorded : {out : Origin} {o : FifoOptions} {h : History} {shelf : ShelfStat
     → Table out o (T ++ t ∷ []) (Fated i f ∷ h) [] shelf writer new sessions faults
 recorded {h = h} T t i f e k d = record {
   rows = k.rows;
-  last = record { front = k.last.front; last = k.last.last; split = k.last.split; number = k.last.number; is_open = k.last.is_open };
+  last = record { front = k.last.front; last = k.last.last; split = k.last.split; number = k.last.number; is_open = k.last.is_open; unended = unended_more h (Fated i f ∷ h) (λ j w. w) k.last.last.outcome k.last.last.fault k.last.unended };
   are_sessions = k.are_sessions;
   are_faults = k.are_faults;
   chain = k.chain;
@@ -109,7 +119,7 @@ pub want_before : {out : Origin} {o : FifoOptions} {T : List Given} {h : History
     → Table out o T (Tried s i facts answer.Fault ∷ h) ahead shelf writer runs sessions faults → Table out o T (Tried s i facts answer.Fault ∷ Want ∷ h) ahead shelf writer runs sessions faults
 want_before {h = h} {faults = faults} s i facts t = record {
   rows = t.rows;
-  last = record { front = t.last.front; last = t.last.last; split = t.last.split; number = t.last.number; is_open = λ w. absurd (wanted_so s i facts answer.Fault h w) };
+  last = record { front = t.last.front; last = t.last.last; split = t.last.split; number = t.last.number; is_open = λ w. absurd (wanted_so s i facts answer.Fault h w); unended = unended_more (Tried s i facts answer.Fault ∷ h) (Tried s i facts answer.Fault ∷ Want ∷ h) (λ j w. w) t.last.last.outcome t.last.last.fault t.last.unended };
   are_sessions = t.are_sessions;
   are_faults = t.are_faults;
   chain = t.chain;
@@ -128,9 +138,9 @@ want_before {h = h} {faults = faults} s i facts t = record {
 
 pub want_now : {out : Origin} {o : FifoOptions} {T : List Given} {h : History} {ahead : List (ℕ × Packet)} {shelf : ShelfState} {writer : Writer} {runs : List Run} {sessions : List SessionNote} {faults : List FaultNote}
     → Table out o T h ahead shelf writer runs sessions faults → (asks_list out.seg ≡ false → IsGapless T → faults ≡ [] → Rose out.shelf.wants shelf.wants) → Table out o T (Want ∷ h) ahead shelf writer runs sessions faults
-want_now t excused = record {
+want_now {h = h} t excused = record {
   rows = t.rows;
-  last = record { front = t.last.front; last = t.last.last; split = t.last.split; number = t.last.number; is_open = λ w. absurd (cc w) };
+  last = record { front = t.last.front; last = t.last.last; split = t.last.split; number = t.last.number; is_open = λ w. absurd (cc w); unended = unended_more h (Want ∷ h) (λ j w. w) t.last.last.outcome t.last.last.fault t.last.unended };
   are_sessions = t.are_sessions;
   are_faults = t.are_faults;
   chain = t.chain;
@@ -163,10 +173,10 @@ module _ {out : Origin} {o : FifoOptions} {T : List Given} {h : History} {shelf 
   pub replaced : q.note ≡ t.last.last.note → q.before ≡ t.last.last.before → q.first ≡ t.last.last.first → q.after ≡ new → q.next ≡ number_in new_writer.mux → RowHolds out (Gives T) q
       → row_packets q ≡ row_packets t.last.last ++ ahead → new_sessions ≡ sessions → new_runs ≡ runs
       → new_faults ≡ filter_map row_fault (t.last.front ++ q ∷ []) → t.last.last.note.number ≡ session_of g
-      → (wanted g ≡ false → mode_of o g ≡ Live → (q.outcome ≡ Open) × WriterAfter out q.first q.written new_writer) → ((fates_of g ≡ fates_of h) × (covered g ≡ covered h)) → NotesTell g new_faults
+      → (wanted g ≡ false → mode_of o g ≡ Live → (q.outcome ≡ Open) × WriterAfter out q.first q.written new_writer) → Unended g q.outcome q.fault → ((fates_of g ≡ fates_of h) × (covered g ≡ covered h)) → NotesTell g new_faults
       → (wanted g ≡ false → new.writing ≡ mode_is_live (mode_of o g)) → SoundStays shelf new → (out.shelf.sound ≡ true → new_faults ≡ []) → shelf.wants ≤ new.wants
       → (asks_list out.seg ≡ false → wanted g ≡ true → new_faults ≡ [] → Rose out.shelf.wants new.wants) → Table out o T g ahead new new_writer new_runs new_sessions new_faults
-  replaced same_note same_before same_first is_after is_next holds more is_sessions is_runs is_faults number is_open same_fates tells writes more_sound safely more_wants excused =
+  replaced same_note same_before same_first is_after is_next holds more is_sessions is_runs is_faults number is_open unended same_fates tells writes more_sound safely more_wants excused =
       let fr = t.last.front in
       let r = t.last.last in
       let chained : Chain out.shelf (fr ++ r ∷ []) shelf = rw t.last.split at t.chain in
@@ -177,7 +187,7 @@ module _ {out : Origin} {o : FifoOptions} {T : List Given} {h : History} {shelf 
       record {
         numbered = numbered_push 0 fr q (numbered_front 0 fr r numbers) (ap (λ (n : SessionNote). n.number) same_note ∙ numbered_last 0 fr r numbers);
         rows = fr ++ q ∷ [];
-        last = record { front = fr; last = q; split = refl; number = ap (λ (n : SessionNote). n.number) same_note ∙ number; is_open = is_open };
+        last = record { front = fr; last = q; split = refl; number = ap (λ (n : SessionNote). n.number) same_note ∙ number; is_open = is_open; unended = unended };
         are_sessions = is_sessions ∙ t.are_sessions ∙ rw (t.last.split, map_push row_note fr r, map_push row_note fr q, same_note) refl;
         are_faults = is_faults;
         chain = rw (← is_after) (chain_last out.shelf shelf fr r q chained same_before);
@@ -197,13 +207,13 @@ module _ {out : Origin} {o : FifoOptions} {T : List Given} {h : History} {shelf 
   -- a session began
   pub appended : q.before ≡ shelf → q.first ≡ number_in writer.mux → q.after ≡ new → q.next ≡ number_in new_writer.mux → RowHolds out (Gives T) q → row_packets q ≡ ahead → new_sessions ≡ sessions ++ q.note ∷ [] → new_runs ≡ runs
       → new_faults ≡ filter_map row_fault (t.rows ++ q ∷ []) → q.note.number ≡ session_of h + 1 → q.note.number ≡ session_of g
-      → (wanted g ≡ false → mode_of o g ≡ Live → (q.outcome ≡ Open) × WriterAfter out q.first q.written new_writer) → ((fates_of g ≡ fates_of h) × (covered g ≡ covered h)) → NotesTell g new_faults
+      → (wanted g ≡ false → mode_of o g ≡ Live → (q.outcome ≡ Open) × WriterAfter out q.first q.written new_writer) → Unended g q.outcome q.fault → ((fates_of g ≡ fates_of h) × (covered g ≡ covered h)) → NotesTell g new_faults
       → (wanted g ≡ false → new.writing ≡ mode_is_live (mode_of o g)) → SoundStays shelf new → (out.shelf.sound ≡ true → new_faults ≡ []) → shelf.wants ≤ new.wants
       → (asks_list out.seg ≡ false → wanted g ≡ true → new_faults ≡ [] → Rose out.shelf.wants new.wants) → Table out o T g ahead new new_writer new_runs new_sessions new_faults
-  appended is_before is_first is_after is_next holds more is_sessions is_runs is_faults next number is_open same_fates tells writes more_sound safely more_wants excused =
+  appended is_before is_first is_after is_next holds more is_sessions is_runs is_faults next number is_open unended same_fates tells writes more_sound safely more_wants excused =
       record {
         rows = t.rows ++ q ∷ [];
-        last = record { front = t.rows; last = q; split = refl; number = number; is_open = is_open };
+        last = record { front = t.rows; last = q; split = refl; number = number; is_open = is_open; unended = unended };
         numbered = numbered_push 0 t.rows q t.numbered (next ∙ session_count t);
         are_sessions = is_sessions ∙ rw t.are_sessions (sym (map_push row_note t.rows q));
         are_faults = is_faults;
@@ -288,7 +298,7 @@ put_wanted {out = out} {o = o} {T = T} {h = h} i p facts v w t u live at made (i
     (sym (append-nil (row_packets r)))
     c.sessions c.runs
     (m.2 ∙ t.are_faults ∙ rw t.last.split (faults_push_none fr r k.no_fault ∙ sym (faults_push_none fr q refl)))
-    k.number (λ x. absurd (cc x)) (refl, refl) (rw m.2 t.notes) (λ x. absurd (cc x)) c.sound (λ e. m.2 ∙ t.safe e) c.want_counts
+    k.number (λ x. absurd (cc x)) (inl (refl, refl)) (refl, refl) (rw m.2 t.notes) (λ x. absurd (cc x)) c.sound (λ e. m.2 ∙ t.safe e) c.want_counts
     (λ n x e. rose_later out.shelf.wants v.shelf.wants w.shelf.wants t.wants m.4)
 put_wanted {out = out} {o = o} {T = T} {h = h} i p facts v w t u live at made (inr m) =
     let c = made.calls in
@@ -306,7 +316,7 @@ put_wanted {out = out} {o = o} {T = T} {h = h} i p facts v w t u live at made (i
     (sym (append-nil (row_packets r)))
     c.sessions c.runs
     (m.2 ∙ t.are_faults ∙ rw t.last.split (faults_push_none fr r k.no_fault ∙ sym (faults_push_none fr q refl)))
-    k.number (λ x. absurd (cc x)) (refl, refl) (rw m.2 t.notes) (λ x. absurd (cc x)) c.sound (λ e. m.2 ∙ t.safe e) c.want_counts
+    k.number (λ x. absurd (cc x)) tt (refl, refl) (rw m.2 t.notes) (λ x. absurd (cc x)) c.sound (λ e. m.2 ∙ t.safe e) c.want_counts
     (λ n x e. both_lists (asks_list out.seg) m.0 n)
 
 -- the last packet was tried in the open session
@@ -335,7 +345,7 @@ put_made {out = out} {o = o} {T = T} {h = h} i p facts answer.Done v w t u live 
     (map_push (λ (x : Packet). (r.note.number, x)) r.written p ∙ ap (λ (n : ℕ). row_packets r ++ (n, p) ∷ []) k.number)
     c.sessions c.runs
     (c.made.2 ∙ t.are_faults ∙ rw t.last.split (faults_push_none fr r k.no_fault ∙ sym (faults_push_none fr q refl)))
-    k.number (λ _ _. (refl, made.writer refl)) (refl, refl) (rw c.made.2 t.notes) (λ _. c.made.1) c.sound (λ e. c.made.2 ∙ t.safe e) c.want_counts (λ n x e. no_want (wanted h) u x)
+    k.number (λ _ _. (refl, made.writer refl)) tt (refl, refl) (rw c.made.2 t.notes) (λ _. c.made.1) c.sound (λ e. c.made.2 ∙ t.safe e) c.want_counts (λ n x e. no_want (wanted h) u x)
 put_made {out = out} {o = o} {T = T} {h = h} i p facts answer.Fault v w t u live at in_session made =
     let c = made.calls in
     let fr = t.last.front in
@@ -355,7 +365,7 @@ put_made {out = out} {o = o} {T = T} {h = h} i p facts answer.Fault v w t u live
     (sym (append-nil (row_packets r)))
     c.sessions c.runs
     (c.made.2 ∙ ap (λ (ns : List FaultNote). ns ++ n ∷ []) (t.are_faults ∙ rw t.last.split (faults_push_none fr r k.no_fault)) ∙ sym (faults_push_some fr q n refl))
-    k.number (λ _ l. absurd (not_live o (Tried (trying o h) i facts answer.Fault ∷ h) shut l)) (refl, refl)
+    k.number (λ _ l. absurd (not_live o (Tried (trying o h) i facts answer.Fault ∷ h) shut l)) tt (refl, refl)
     (v.faults, n, c.made.2, in_session, inl refl, t.notes) (λ _. c.made.1 ∙ sym shut) c.sound (λ e. absurd (c.safe (t.sound e).0 refl)) c.want_counts (λ l x e. no_want (wanted h) u x)
 put_made {out = out} {o = o} {T = T} {h = h} i p facts answer.NoMemory v w t u live at in_session made = put_wanted i p facts v w t u live at made made.calls.made
 
@@ -387,7 +397,7 @@ opened_wanted {out = out} {o = o} {h = h} i p facts v mid w t u at in_session ne
     refl
     (c.sessions ∙ op.sessions) (c.runs ∙ op.runs)
     (m.2 ∙ op.made.2 ∙ t.are_faults ∙ sym (faults_push_none t.rows q refl))
-    (in_session ∙ next) in_session (λ x. absurd (cc x)) (refl, refl) (rw (m.2, op.made.2) t.notes) (λ x. absurd (cc x))
+    (in_session ∙ next) in_session (λ x. absurd (cc x)) (inl (refl, refl)) (refl, refl) (rw (m.2, op.made.2) t.notes) (λ x. absurd (cc x))
     (sound_then v.shelf mid.shelf w.shelf op.sound c.sound) (λ e. m.2 ∙ op.made.2 ∙ t.safe e) (omega (arith, op.want_counts, c.want_counts))
     (λ l x e. rose_later out.shelf.wants mid.shelf.wants w.shelf.wants before m.4)
 opened_wanted {out = out} {o = o} {h = h} i p facts v mid w t u at in_session next op made (inr m) =
@@ -405,7 +415,7 @@ opened_wanted {out = out} {o = o} {h = h} i p facts v mid w t u at in_session ne
     refl
     (c.sessions ∙ op.sessions) (c.runs ∙ op.runs)
     (m.2 ∙ op.made.2 ∙ t.are_faults ∙ sym (faults_push_none t.rows q refl))
-    (in_session ∙ next) in_session (λ x. absurd (cc x)) (refl, refl) (rw (m.2, op.made.2) t.notes) (λ x. absurd (cc x))
+    (in_session ∙ next) in_session (λ x. absurd (cc x)) tt (refl, refl) (rw (m.2, op.made.2) t.notes) (λ x. absurd (cc x))
     (sound_then v.shelf mid.shelf w.shelf op.sound c.sound) (λ e. m.2 ∙ op.made.2 ∙ t.safe e) (omega (arith, op.want_counts, c.want_counts))
     (λ l x e. both_lists (asks_list out.seg) m.0 l)
 
@@ -420,7 +430,7 @@ begin_wanted {out = out} {o = o} {h = h} i p facts v w t u in_session next op (i
     appended t q (Tried (trying o h) i facts answer.NoMemory ∷ h) [] w.shelf w.kit.writer w.runs w.sessions w.faults
     refl refl refl refl ((refl, refl, refl, m.0, m.5), λ e. m.4, op.counts, op.want_counts) refl op.sessions op.runs
     (m.2 ∙ t.are_faults ∙ sym (faults_push_none t.rows q refl))
-    (in_session ∙ next) in_session (λ x. absurd (cc x)) (refl, refl) (rw m.2 t.notes) (λ x. absurd (cc x))
+    (in_session ∙ next) in_session (λ x. absurd (cc x)) tt (refl, refl) (rw m.2 t.notes) (λ x. absurd (cc x))
     op.sound (λ e. m.2 ∙ t.safe e) op.want_counts (λ l x e. rose_later out.shelf.wants v.shelf.wants w.shelf.wants t.wants m.4)
 begin_wanted {out = out} {o = o} {h = h} i p facts v w t u in_session next op (inr m) =
     let s = session_in v.fifo in
@@ -428,7 +438,7 @@ begin_wanted {out = out} {o = o} {h = h} i p facts v w t u in_session next op (i
     appended t q (Tried (trying o h) i facts answer.NoMemory ∷ h) [] w.shelf w.kit.writer w.runs w.sessions w.faults
     refl refl refl refl ((refl, refl, refl, m.0, m.1, m.4), λ e. absurd (cc e), op.counts, op.want_counts) refl op.sessions op.runs
     (m.2 ∙ t.are_faults ∙ sym (faults_push_none t.rows q refl))
-    (in_session ∙ next) in_session (λ x. absurd (cc x)) (refl, refl) (rw m.2 t.notes) (λ x. absurd (cc x))
+    (in_session ∙ next) in_session (λ x. absurd (cc x)) tt (refl, refl) (rw m.2 t.notes) (λ x. absurd (cc x))
     op.sound (λ e. m.2 ∙ t.safe e) op.want_counts (λ l x e. both_lists (asks_list out.seg) m.0 l)
 
 -- the last packet was tried in a new session
@@ -455,7 +465,7 @@ opened_put {out = out} {o = o} {h = h} i p facts answer.Done v w t u at in_sessi
     (ap (λ (x : ℕ). (x, p) ∷ []) in_session)
     (c.sessions ∙ op.sessions) (c.runs ∙ op.runs)
     (c.made.2 ∙ op.made.2 ∙ t.are_faults ∙ sym (faults_push_none t.rows q refl))
-    (in_session ∙ next) in_session (λ _ _. (refl, m.2.writer refl)) (refl, refl) (rw (c.made.2, op.made.2) t.notes) (λ _. c.made.1)
+    (in_session ∙ next) in_session (λ _ _. (refl, m.2.writer refl)) tt (refl, refl) (rw (c.made.2, op.made.2) t.notes) (λ _. c.made.1)
     (sound_then v.shelf mid.shelf w.shelf op.sound c.sound) (λ e. c.made.2 ∙ op.made.2 ∙ t.safe e) (omega (arith, op.want_counts, c.want_counts)) (λ l x e. no_want (wanted h) u x)
 opened_put {out = out} {o = o} {h = h} i p facts answer.Fault v w t u at in_session next (inl m) =
     let mid = m.0 in
@@ -480,7 +490,7 @@ opened_put {out = out} {o = o} {h = h} i p facts answer.Fault v w t u at in_sess
     refl
     (c.sessions ∙ op.sessions) (c.runs ∙ op.runs)
     (c.made.2 ∙ ap (λ (ns : List FaultNote). ns ++ n ∷ []) (op.made.2 ∙ t.are_faults) ∙ sym (faults_push_some t.rows q n refl))
-    (in_session ∙ next) in_session (λ _ l. absurd (not_live o (Tried (trying o h) i facts answer.Fault ∷ h) shut l)) (refl, refl)
+    (in_session ∙ next) in_session (λ _ l. absurd (not_live o (Tried (trying o h) i facts answer.Fault ∷ h) shut l)) tt (refl, refl)
     (mid.faults, n, c.made.2, same ∙ in_session, inl refl, rw op.made.2 t.notes) (λ _. c.made.1 ∙ sym shut)
     (sound_then v.shelf mid.shelf w.shelf op.sound c.sound) (λ e. absurd (c.safe (op.sound (t.sound e).0).0 refl)) (omega (arith, op.want_counts, c.want_counts)) (λ l x e. no_want (wanted h) u x)
 opened_put i p facts answer.NoMemory v w t u at in_session next (inl m) = opened_wanted i p facts v m.0 w t u at in_session next m.1 m.2 m.2.calls.made
@@ -496,7 +506,7 @@ opened_put {out = out} {o = o} {h = h} i p facts answer.Fault v w t u at in_sess
     ((refl, refl, refl, op.made.0, op.made.5), (refl, refl, op.counts, op.made.4, omega arith, refl), op.counts, op.want_counts)
     refl op.sessions op.runs
     (op.made.2 ∙ ap (λ (ns : List FaultNote). ns ++ n ∷ []) t.are_faults ∙ sym (faults_push_some t.rows q n refl))
-    (in_session ∙ next) in_session (λ _ l. absurd (not_live o (Tried (trying o h) i facts answer.Fault ∷ h) shut l)) (refl, refl)
+    (in_session ∙ next) in_session (λ _ l. absurd (not_live o (Tried (trying o h) i facts answer.Fault ∷ h) shut l)) tt (refl, refl)
     (v.faults, n, op.made.2, in_session, inr (refl, next_differs (trying o h) (session_of h) next), t.notes) (λ _. op.made.1 ∙ sym shut)
     op.sound (λ e. absurd (op.safe (t.sound e).0 refl)) op.want_counts (λ l x e. no_want (wanted h) u x)
 opened_put i p facts answer.NoMemory v w t u at in_session next (inr m) = begin_wanted i p facts v w t u in_session next m.1 m.1.made

@@ -35,14 +35,21 @@ HasPut (n ∷ ns) i = (n.at ≡ Put i) ⊎ HasPut ns i
 abbrev pub IsHit : List (ℕ × Fate) → ℕ → FaultNote → ℕ → Type 0
 IsHit fates f n i = (n.at ≡ Put i) ⊎ ((n.at ≡ Begin) × ((j : ℕ) → Has fates j (fate.Lost f) → i ≤ j))
 
--- The packet comes before the wait is over that began with packet j, which note f hit. Packets have indices by this relation.
-pub record IsWaiting (o : FifoOptions) (At : ℕ → Packet → Type 0) (fates : List (ℕ × Fate)) (f : ℕ) (n : FaultNote) (p : Packet) : Type 0 where
+-- Note f is the last before packet i: one that comes behind it hit a later packet.
+abbrev pub IsLastBefore : List (ℕ × Fate) → List FaultNote → (f i : ℕ) → Type 0
+IsLastBefore fates notes f i = (g j : ℕ) (m : FaultNote) → f < g → slice_get notes g ≡ Some m → (m.at ≡ Put j) ⊎ Has fates j (fate.Lost g) → i < j
+
+-- Packet i comes before the wait is over that began with the packet that note f hit, and that note is the last before it. Packets
+-- have indices by this relation.
+pub record IsWaiting (o : FifoOptions) (At : ℕ → Packet → Type 0) (fates : List (ℕ × Fate)) (notes : List FaultNote) (f : ℕ) (n : FaultNote) (i : ℕ) (p : Packet) : Type 0 where
   pub recovers : o.attempt_recovery ≡ true
   pub waits : o.wait_ms ≢ 0
   pub index : ℕ
   pub packet : Packet
   pub at : At index packet
   pub hit : IsHit fates f n index
+  pub earlier : index ≤ i
+  pub last : IsLastBefore fates notes f i
   pub early : int_lt (p.dts -ℤ packet.dts) (pos o.wait_ms) ≡ true
 
 -- a packet waits for a restart packet only behind one that wasn't written, or where its own write failed
@@ -52,7 +59,7 @@ MayWait g o fates notes i p = (o.restart ≡ true) × (i ≢ 0) × (is_restart p
 
 -- a packet is lost at its own fault, or in the wait after one
 abbrev pub MayBeLost : FifoOptions → (ℕ → Packet → Type 0) → List (ℕ × Fate) → List FaultNote → ℕ → ℕ → Packet → Type 0
-MayBeLost o At fates notes i f p = (n : FaultNote) × (slice_get notes f ≡ Some n) × (IsHit fates f n i ⊎ IsWaiting o At fates f n p)
+MayBeLost o At fates notes i f p = (n : FaultNote) × (slice_get notes f ≡ Some n) × (IsHit fates f n i ⊎ IsWaiting o At fates notes f n i p)
 
 -- a packet may stand first, or stands right behind the one before it
 abbrev pub MayStand : Origin → List (ℕ × Fate) → ℕ → ℕ → Packet → Type 0

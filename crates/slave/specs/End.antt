@@ -21,7 +21,7 @@ use Rattle.slave.specs.declared.job.SlaveEnd.{SlaveEnd}
 use Rattle.slave.specs.Runs.{expand, AreInOrder}
 use Rattle.slave.specs.Segments.{start_of, asks_list}
 use Rattle.slave.specs.Given.{Given, index_of, turn_of, end_from, Gives, IsGapless}
-use Rattle.slave.specs.Table.{StandsAt, indices, covered, written_among, EndFailed, Closed, Row, AllRows, Chain, GoesOnFrom, row_note, row_fault, row_packets, written_of, NotesTell, Numbered, Indexed, turns_from}
+use Rattle.slave.specs.Table.{StandsAt, indices, covered, written_among, EndFailed, Closed, Unended, Row, AllRows, Chain, GoesOnFrom, row_note, row_fault, row_packets, written_of, NotesTell, Numbered, Indexed, turns_from}
 
 pub record EndView : Type 0 where
   pub shelf : ShelfState
@@ -45,12 +45,12 @@ end_view state e = record {
   bytes = e.bytes;
 }
 
--- the outcome of the last session, by the answer of the muxer's end
-abbrev pub EndsAs : Option Answer → Row → Type 0
-EndsAs None r = Unit {0}
-EndsAs (Some answer.Done) r = r.outcome ≡ Closed
-EndsAs (Some answer.Fault) r = r.outcome ≡ EndFailed
-EndsAs (Some answer.NoMemory) r = r.outcome ≡ EndFailed
+-- the outcome of the last session, by the answer of the muxer's end, where that was called
+abbrev pub EndsAs : History → Option Answer → Row → Type 0
+EndsAs h None r = Unended h r.outcome r.fault
+EndsAs h (Some answer.Done) r = r.outcome ≡ Closed
+EndsAs h (Some answer.Fault) r = r.outcome ≡ EndFailed
+EndsAs h (Some answer.NoMemory) r = r.outcome ≡ EndFailed
 
 -- the notes are those of the run, and then that of the end
 abbrev pub EndNotes : History → Option Answer → List FaultNote → Type 0
@@ -77,7 +77,7 @@ pub record Ended (g : Origin) (o : FifoOptions) (L : List Packet) (e : EndView) 
   pub split : rows ≡ front ++ last ∷ []
   pub numbered : Numbered 0 rows
   pub number : last.note.number ≡ session_of history
-  pub ends_as : EndsAs end_answer last
+  pub ends_as : EndsAs history end_answer last
   pub are_sessions : e.sessions ≡ map row_note rows
   pub are_faults : e.faults ≡ filter_map row_fault rows
   -- the bytes that the shelf accepted, counted from 0
@@ -134,7 +134,7 @@ pub record EndedAll (g : Origin) (o : FifoOptions) (T : List Given) (e : EndView
   pub split : rows ≡ front ++ last ∷ []
   pub numbered : Numbered 0 rows
   pub number : last.note.number ≡ session_of history
-  pub ends_as : EndsAs end_answer last
+  pub ends_as : EndsAs history end_answer last
   pub are_sessions : e.sessions ≡ map row_note rows
   pub are_faults : e.faults ≡ filter_map row_fault rows
   -- the bytes that the shelf accepted, counted from 0

@@ -4,6 +4,7 @@ pub mod Begun
 pub mod Calls
 pub mod End
 pub mod Entered
+pub mod Failures
 pub mod Fresh
 pub mod Given
 pub mod Handed

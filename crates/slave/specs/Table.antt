@@ -183,6 +183,24 @@ abbrev pub Numbered : ℕ → List Row → Type 0
 Numbered n [] = Unit {0}
 Numbered n (r ∷ rs) = (r.note.number ≡ n) × Numbered (n + 1) rs
 
+-- memory was wanted while this packet was in hand
+abbrev pub WantedAt : History → ℕ → Type 0
+WantedAt [] i = ⊥
+WantedAt (Begun a ∷ h) i = WantedAt h i
+WantedAt (Tried s j facts a ∷ h) i = ((j ≡ i) × (a ≡ answer.NoMemory)) ⊎ WantedAt h i
+WantedAt (Fated j f ∷ h) i = WantedAt h i
+WantedAt (Want ∷ h) i = WantedAt h i
+
+-- The muxer's end wasn't called for the session. Where the write of a packet wanted memory, that packet was then in hand.
+abbrev pub Unended : History → Outcome → Option FaultNote → Type 0
+Unended h Open n = Unit {0}
+Unended h NotCalled n = Unit {0}
+Unended h NotBegun n = Unit {0}
+Unended h (PutFailed i p) (Some n) = Unit {0}
+Unended h (PutFailed i p) None = WantedAt h i
+Unended h EndFailed n = ⊥
+Unended h Closed n = ⊥
+
 -- The last session is the one that was tried last; while the output is live and no memory was wanted it is open, and the
 -- muxer is where its packets left it, all of them flushed.
 pub record LastRow (g : Origin) (o : FifoOptions) (h : History) (writer : Writer) (rows : List Row) : Type 0 where
@@ -191,6 +209,7 @@ pub record LastRow (g : Origin) (o : FifoOptions) (h : History) (writer : Writer
   pub split : rows ≡ front ++ last ∷ []
   pub number : last.note.number ≡ session_of h
   pub is_open : wanted h ≡ false → mode_of o h ≡ Live → (last.outcome ≡ Open) × WriterAfter g last.first last.written writer
+  pub unended : Unended h last.outcome last.fault
 
 -- What is recorded agrees with this history of what was given. The packets ahead were written, and their fates are not yet recorded.
 pub record Table (g : Origin) (o : FifoOptions) (T : List Given) (h : History) (ahead : List (ℕ × Packet))

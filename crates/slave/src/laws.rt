@@ -2,6 +2,7 @@
 ghost use Rattle.slave.specs.Accounts.{EndsMeetAccounts};
 ghost use Rattle.slave.specs.AccountsAll.{EndsMeetAllAccounts};
 ghost use Rattle.slave.specs.End.{GivenUpStaysSo, SoundNeverFails};
+ghost use Rattle.slave.specs.Failures.{FailuresAreNoted};
 ghost use Rattle.slave.specs.Handed.{HandsOver, LanesDeal};
 ghost use Rattle.slave.specs.Headline.{NoFaultNoLoss};
 ghost use Rattle.slave.specs.LaneAccounts.{LossIsBounded, UnrefusedFollow};
@@ -31,6 +32,11 @@ pub fn given_up_stays_so()
 /// On a sound shelf an output isn't given up, and it is closed unless memory was wanted.
 pub fn sound_never_fails()
     ensures { SoundNeverFails }
+{}
+
+/// An output that failed has a note of a fault, and its shelf's count of faults rose.
+pub fn failures_are_noted()
+    ensures { FailuresAreNoted }
 {}
 
 /// Behind a lane, refused and flushed packets together are at most as many as its refusals, each counted once and as often as

@@ -20,9 +20,9 @@ mod work_laws;
 pub use job::{SlaveEnd, SlaveJob};
 pub use kit::SlaveKit;
 pub use laws::{
-    ends_meet_accounts, ends_meet_all_accounts, faults_decide, given_up_stays_so, lanes_deal,
-    lanes_hand_over, loss_is_bounded, no_fault_no_loss, sound_never_fails, unrefused_follow,
-    workers_pass_on,
+    ends_meet_accounts, ends_meet_all_accounts, failures_are_noted, faults_decide,
+    given_up_stays_so, lanes_deal, lanes_hand_over, loss_is_bounded, no_fault_no_loss,
+    sound_never_fails, unrefused_follow, workers_pass_on,
 };
 pub use mux::Mux;
 pub use name::session_name;

@@ -29,7 +29,8 @@ pub trait Spawner {
     /// Whether the next start goes on. Where it doesn't, it is counted.
     fn admits(&mut self) -> bool
         ensures never_falls { refused self.old ≤ refused self.new }
-        ensures counted { OnFalse result (Rose (refused self.old) (refused self.new)) };
+        ensures counted { OnFalse result (Rose (refused self.old) (refused self.new)) }
+        ensures kept { result ≡ true → refused self.new ≡ refused self.old };
 
     /// Counts a start that failed.
     fn count_refused(&mut self)
@@ -64,6 +65,7 @@ impl Spawner for ThreadSpawner {
     fn admits(&mut self) -> bool
         ensures never_falls { self.old.refused ≤ self.new.refused }
         ensures counted { OnFalse result (Rose self.old.refused self.new.refused) }
+        ensures kept { result ≡ true → self.new.refused ≡ self.old.refused }
         ensures exact { result ≡ true }
     {
         true
@@ -110,6 +112,7 @@ impl Spawner for RefusingSpawner {
     fn admits(&mut self) -> bool
         ensures never_falls { self.old.refused ≤ self.new.refused }
         ensures counted { OnFalse result (Rose self.old.refused self.new.refused) }
+        ensures kept { result ≡ true → self.new.refused ≡ self.old.refused }
         ensures exact { result ≡ not (list_any (λ n. n == self.old.next) self.old.starts.items) }
         ensures numbered { (self.new.next ≡ raised self.old.next 1) × (self.new.starts ≡ self.old.starts) }
     {
@@ -151,6 +154,7 @@ pub fn start<
     ensures ok { IfOk result (λ r. (r.job ≡ view_of S.state job) × (r.taker ≡ taker)) }
     ensures err { IfErr result (λ e. (e.0 ≡ job) × (e.1 ≡ taker) × Rose (P.refused spawner.old) (P.refused spawner.new)) }
     ensures never_falls { P.refused spawner.old ≤ P.refused spawner.new }
+    ensures kept { IfOk result (λ r. P.refused spawner.new ≡ P.refused spawner.old) }
 {
     if !spawner.admits() {
         return Err((job, taker));
