@@ -10,7 +10,7 @@ mod queues;
 #[cfg(test)]
 mod tests;
 
-use queues::{may_leave, take_head};
+use queues::{has_room, may_leave, take_head};
 use rmx_media::{NoMemory, Packet};
 use std::alloc::Global;
 use std::collections::VecDeque;
@@ -80,22 +80,19 @@ impl Interleaver {
     {
         let dts = p.dts;
         if p.stream == 0 {
-            match self.first.push_back(p) {
-                Ok(()) => {
-                    self.first_last = dts;
-                    Ok(())
-                }
-                Err(refused) => Err(refused.value),
+            if !has_room(&mut self.first) {
+                return Err(p);
             }
-        } else {
-            match self.second.push_back(p) {
-                Ok(()) => {
-                    self.second_last = dts;
-                    Ok(())
-                }
-                Err(refused) => Err(refused.value),
-            }
+            self.first.push_back_reserved(p);
+            self.first_last = dts;
+            return Ok(());
         }
+        if !has_room(&mut self.second) {
+            return Err(p);
+        }
+        self.second.push_back_reserved(p);
+        self.second_last = dts;
+        Ok(())
     }
 
     /// The next packet that may go.
