@@ -170,7 +170,7 @@ def faults(folder, expect):
     for kind, (words, place) in FAULTS.items():
         status, report, said = run(words, folder)
         expect(f"fault {kind}", (status, report, os.listdir(folder)), (1, f"status 1 words fault={kind} word={place}\n", []))
-        expect(f"fault {kind}: sentences", re.fullmatch(rf"remux: word {place} \(.*\): .+\nremux: try 'remux --help'\n", said) is not None, True)
+        expect(f"fault {kind}: sentences", re.fullmatch(rf"remux: (?:word {place} \(.*\): )?.+\nremux: try 'remux --help'\n", said) is not None, True)
         expect(f"fault {kind} in docs/USING.md", re.search(rf"\| {kind} \| \w", text(USING)) is not None, True)
     whole = re.search(r"^F is 1 for(.*?)^\.It", text(MANUAL), re.MULTILINE | re.DOTALL)[1]
     expect("faults in the manual", [kind for kind in FAULTS if not re.search(rf"\b{kind}\b", "1 " + whole)], [])
