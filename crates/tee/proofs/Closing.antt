@@ -151,10 +151,6 @@ one_fails state run seats given es u k a dead w =
     (first_one state given 0 seats ts es a w) (all_fail state given seats ts es a w)
     (sym k.stands.watches.now ∙ over_when run.stopped u dead)
 
--- that is how an output ends, whatever its seat
-abbrev pub EndsFor : {S G : Type 0} {ghosts : Ghosts S} → (S → ShelfState) → Outlet S G ghosts → SlaveEnd S → Type 0
-EndsFor state o e = (infos : List StreamInfo) (given : List Packet) (s : Seat) (t : Track) → Attends state infos given (length given) true s t o → EndsAs state given s t e
-
 or_right : (a b : Bool) → b ≡ true → (a || b) ≡ true
 or_right true b e = refl
 or_right false b e = e

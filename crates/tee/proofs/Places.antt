@@ -1,6 +1,5 @@
 -- Three lists, place by place, and loops over them.
-use Rattle.std.proofs.Common.{◌≡◌, ℕ, zero, suc, ◌<◌, ◌+◌, List, [], ◌∷◌, ◌++◌, length, get_or, set, add-one, refl, arith}
-use Rattle.std.specs.List.{AllZip}
+use Rattle.std.proofs.Common.{◌≡◌, ℕ, zero, suc, ◌<◌, ◌+◌, List, [], ◌∷◌, ◌++◌, length, get_or, set, add-one, refl, ap, sym, subst, arith}
 use Rattle.tee.specs.Each.{Each3, Between3}
 
 module _ {A B C : Type 0} (P Q : A → B → C → Type 0) where
@@ -87,27 +86,60 @@ module _ {A B C : Type 0} (P : A → B → C → Type 0) where
   each_snoc (x ∷ us) (y ∷ bs) [] a b c e p = absurd e
   each_snoc (x ∷ us) (y ∷ bs) (z ∷ cs) a b c e p = (e.0, each_snoc us bs cs a b c e.1 p)
 
-  pub each_among : (us : List A) (bs : List B) (front : List C) (c : C) (back : List C) → Each3 P us bs (front ++ c ∷ back) → (a : A) × (b : B) × P a b c
-  each_among [] [] [] c back e = absurd e
-  each_among [] [] (x ∷ front) c back e = absurd e
-  each_among [] (b ∷ bs) [] c back e = absurd e
-  each_among [] (b ∷ bs) (x ∷ front) c back e = absurd e
-  each_among (a ∷ us) [] [] c back e = absurd e
-  each_among (a ∷ us) [] (x ∷ front) c back e = absurd e
-  each_among (a ∷ us) (b ∷ bs) [] c back e = (a, b, e.0)
-  each_among (a ∷ us) (b ∷ bs) (x ∷ front) c back e = each_among us bs front c back e.1
+-- none is none
+pub each_none : {A B C D : Type 0} (P : A → B → C → Type 0) (Q : A → B → D → Type 0) (us : List A) (bs : List B) → Each3 P us bs [] → Each3 Q us bs []
+each_none P Q [] [] e = tt
+each_none P Q [] (b ∷ bs) e = absurd e
+each_none P Q (a ∷ us) [] e = absurd e
+each_none P Q (a ∷ us) (b ∷ bs) e = absurd e
 
--- what is made of each third
-pub each_through : {A B C D : Type 0} (P : A → B → C → Type 0) (R : C → D → Type 0) (Q : A → B → D → Type 0) (f : (a : A) (b : B) (c : C) (d : D) → P a b c → R c d → Q a b d)
-    (us : List A) (bs : List B) (cs : List C) (ds : List D) → Each3 P us bs cs → AllZip R cs ds → Each3 Q us bs ds
-each_through P R Q f [] [] [] [] e z = tt
-each_through P R Q f [] [] [] (d ∷ ds) e z = absurd z
-each_through P R Q f [] [] (c ∷ cs) ds e z = absurd e
-each_through P R Q f [] (b ∷ bs) cs ds e z = absurd e
-each_through P R Q f (a ∷ us) [] cs ds e z = absurd e
-each_through P R Q f (a ∷ us) (b ∷ bs) [] ds e z = absurd e
-each_through P R Q f (a ∷ us) (b ∷ bs) (c ∷ cs) [] e z = absurd z
-each_through P R Q f (a ∷ us) (b ∷ bs) (c ∷ cs) (d ∷ ds) e z = (f a b c d e.0 z.0, each_through P R Q f us bs cs ds e.1 z.1)
+-- the last place, and those before it
+pub record Last {A B C : Type 0} (P : A → B → C → Type 0) (us : List A) (bs : List B) (cs : List C) (c : C) : Type 0 where
+  pub firsts : List A
+  pub seconds : List B
+  pub a : A
+  pub b : B
+  pub firsts_are : us ≡ firsts ++ a ∷ []
+  pub seconds_are : bs ≡ seconds ++ b ∷ []
+  pub front : Each3 P firsts seconds cs
+  pub last : P a b c
+
+one_last : {A B C : Type 0} (P : A → B → C → Type 0) (a : A) (b : B) (us : List A) (bs : List B) (c : C) → P a b c → Each3 P us bs [] → Last P (a ∷ us) (b ∷ bs) [] c
+one_last P a b [] [] c p e = record { firsts = []; seconds = []; a = a; b = b; firsts_are = refl; seconds_are = refl; front = tt; last = p }
+one_last P a b [] (y ∷ bs) c p e = absurd e
+one_last P a b (x ∷ us) [] c p e = absurd e
+one_last P a b (x ∷ us) (y ∷ bs) c p e = absurd e
+
+pub each_unsnoc : {A B C : Type 0} (P : A → B → C → Type 0) (us : List A) (bs : List B) (cs : List C) (c : C) → Each3 P us bs (cs ++ c ∷ []) → Last P us bs cs c
+each_unsnoc P [] [] [] c e = absurd e
+each_unsnoc P [] [] (x ∷ cs) c e = absurd e
+each_unsnoc P [] (b ∷ bs) [] c e = absurd e
+each_unsnoc P [] (b ∷ bs) (x ∷ cs) c e = absurd e
+each_unsnoc P (a ∷ us) [] [] c e = absurd e
+each_unsnoc P (a ∷ us) [] (x ∷ cs) c e = absurd e
+each_unsnoc P (a ∷ us) (b ∷ bs) [] c e = one_last P a b us bs c e.0 e.1
+each_unsnoc {A} {B} P (a ∷ us) (b ∷ bs) (x ∷ cs) c e =
+    let r = each_unsnoc P us bs cs c e.1 in
+    record {
+      firsts = a ∷ r.firsts;
+      seconds = b ∷ r.seconds;
+      a = r.a;
+      b = r.b;
+      firsts_are = ap (λ (xs : List A). a ∷ xs) r.firsts_are;
+      seconds_are = ap (λ (ys : List B). b ∷ ys) r.seconds_are;
+      front = (e.0, r.front);
+      last = r.last;
+    }
+
+-- what is made of the thirds before the last, and of the last
+pub each_last : {A B C D : Type 0} (P : A → B → C → Type 0) (Q : A → B → D → Type 0) (us : List A) (bs : List B) (cs : List C) (c : C) (ds : List D) (d : D)
+    → ((xs : List A) (ys : List B) → Each3 P xs ys cs → Each3 Q xs ys ds) → ((a : A) (b : B) → P a b c → Q a b d)
+    → Each3 P us bs (cs ++ c ∷ []) → Each3 Q us bs (ds ++ d ∷ [])
+each_last {A} {B} {C} {D} P Q us bs cs c ds d f h e =
+    let n = each_unsnoc P us bs cs c e in
+    subst (λ (xs : List A). Each3 Q xs bs (ds ++ d ∷ [])) (sym n.firsts_are)
+    (subst (λ (ys : List B). Each3 Q (n.firsts ++ n.a ∷ []) ys (ds ++ d ∷ [])) (sym n.seconds_are)
+    (each_snoc Q n.firsts n.seconds ds n.a n.b d (f n.firsts n.seconds n.front) (h n.a n.b n.last)))
 
 -- where each place has a new second for its third, there is a list of these
 pub record Renewed {A B C D : Type 0} (Q : A → D → C → Type 0) (R : A → B → D → Type 0) (us : List A) (bs : List B) (cs : List C) : Type 0 where

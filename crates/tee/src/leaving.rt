@@ -59,6 +59,18 @@ fn join<S: Shelf + Drop, G: Gate + Drop, R: Threads + Wait>(
 }
 
 impl<S: Shelf, G> Outlet<S, G> {
+    ghost use Rattle.tee.specs.RunKeeps.{is_threaded};
+
+    /// Whether a thread writes it.
+    pub fn has_thread(&self) -> bool
+        ensures { result ≡ is_threaded self.now }
+    {
+        match self {
+            Outlet::Here(_, _, _) => false,
+            Outlet::There(_, _) => true,
+        }
+    }
+
     /// Says that nothing more comes, where it has a lane.
     pub fn close(&mut self)
         requires ready { (infos : List Info) × (given : List Piece) × (asked : ℕ) × (seat : Seat) × (track : Track) × Attends S.state infos given asked false seat track self.old }

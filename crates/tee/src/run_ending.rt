@@ -1,5 +1,5 @@
 // The end of all outputs of a run.
-ghost use Rattle.std.specs.Prelude.{◌≡◌, ◌≤◌, ◌||◌, [], ℕ, List, false, true, length, map};
+ghost use Rattle.std.specs.Prelude.{◌≡◌, ◌≤◌, ◌<◌, ◌+◌, ◌++◌, ◌∷◌, ◌||◌, [], ℕ, List, false, true, length, map};
 ghost use Rattle.rmx_media.specs.declared.packet.Packet.{Packet};
 ghost use Rattle.rmx_media.specs.declared.streams.StreamInfo.{StreamInfo};
 ghost use Rattle.tee.specs.Attends.{Attends};
@@ -38,14 +38,26 @@ pub fn close_all<S: Shelf, G>(outlets: &mut Vec<Outlet<S, G>>)
     close_each(outlets.as_mut_slice());
 }
 
-fn either(first: bool, second: bool) -> bool
-    ensures { result ≡ (first || second) }
+// One end more, and whether memory was wanted so far.
+fn with_end<S>(
+    ends: Items<SlaveEnd<S>>,
+    short: bool,
+    end: SlaveEnd<S>,
+    wanted: bool,
+) -> (Items<SlaveEnd<S>>, bool)
+    requires room { 0 < ends.spare }
+    ensures items { result.0.items ≡ ends.items ++ end ∷ [] }
+    ensures spare { result.0.spare + 1 ≡ ends.spare }
+    ensures short { result.1 ≡ (short || wanted) }
 {
-    first || second
+    let mut ends = ends;
+    ends.push(end);
+    (ends, short || wanted)
 }
 
-/// Ends each output, and waits for the threads in order. There is a place for each end. The answer true says that memory was
-/// wanted for the refusals of a lane.
+/// Ends each output. Those that the reader writes end first, so that a thread which hangs holds up none of their files; then the
+/// threads are waited for in order. There is a place for each end. The answer true says that memory was wanted for the refusals of
+/// a lane.
 pub fn finish_each<S: Shelf + Drop, G: Gate + Drop, R: Threads + Wait>(
     rt: &R,
     alloc: Global,
@@ -58,13 +70,19 @@ pub fn finish_each<S: Shelf + Drop, G: Gate + Drop, R: Threads + Wait>(
     ensures ends { (infos : List StreamInfo) (given : List Packet) (seats : List Seat) (tracks : List Track)
         → Each3 (Attends S.state infos given (length given) true) seats tracks outlets.items → Each3 (EndsAs S.state given) seats tracks result.0.items }
     ensures short { result.1 ≡ true → any_want (map (λ e. e.state) result.0.items) ≡ true }
+    ensures left { result.0.spare + length outlets.items ≡ ends.spare }
 {
-    let mut ends = ends;
-    let mut short = false;
-    for outlet in outlets {
+    let mut outlets = outlets;
+    let Some(outlet) = outlets.pop() else {
+        return (ends, false);
+    };
+    if outlet.has_thread() {
+        let (before, short) = finish_each(rt, alloc, outlets, ends);
         let (end, wanted) = outlet.finish(rt, alloc);
-        ends.push(end);
-        short = either(short, wanted);
+        with_end(before, short, end, wanted)
+    } else {
+        let (end, wanted) = outlet.finish(rt, alloc);
+        let (before, short) = finish_each(rt, alloc, outlets, ends);
+        with_end(before, short, end, wanted)
     }
-    (ends, short)
 }
