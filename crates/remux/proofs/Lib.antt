@@ -22,3 +22,5 @@ pub mod Directly
 pub mod Inlining
 pub mod Generating
 pub mod MadeTags
+pub mod Failing
+pub mod Completing

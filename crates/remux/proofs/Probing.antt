@@ -162,10 +162,11 @@ found_by first limit left r old new e0 e1 kn0 kn1 h0 h1 k e l = record {
 }
 
 pub broke_by : (limit left : ℕ) (b : List ℕ) (st0 st1 st2 : InputState) (e0 : Bool) (kn1 : Option Kinds) (h1 h2 : List ℕ → List Tag → Type 0) →
-    length b + left ≡ limit → Took b st0 st1 → Waits b e0 kn1 (h1 b) → Piece 0 st1 st2 h1 h2 → st0.faults ≤ st1.faults → Rose st1.faults st2.faults → Broke limit st0 st2
-broke_by limit left b st0 st1 st2 e0 kn1 h1 h2 long took q p le rose = record {
+    length b + left ≡ limit → Took b st0 st1 → Waits b e0 kn1 (h1 b) → Piece 0 st1 st2 h1 h2 → st0.faults ≤ st1.faults → Rose st1.faults st2.faults → 0 < left → Broke limit st0 st2
+broke_by limit left b st0 st1 st2 e0 kn1 h1 h2 long took q p le rose some = record {
   bytes = b;
   taking = record { long = omega arith; took = took_still b st0 st1 st2 h1 h2 took p };
+  fewer = omega (arith, long, some);
   rose = rose_since st0.faults st1.faults st2.faults le rose;
   undecided = q.undecided;
   calm = q.calm;

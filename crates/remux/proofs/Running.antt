@@ -114,8 +114,8 @@ early_by unfound.NotFlv name p old mid new ended known has o f = record { bytes 
 early_by unfound.BadOffset name p old mid new ended known has o f = record { bytes = f.0; taken = taken name _ f.0 old mid new o f.1.took f.1.long; verdict = f.2; enough = f.3 }
 early_by unfound.NoStreams name p old mid new ended known has o f = record { bytes = f.bytes; taken = taken name _ f.bytes old mid new o f.taking.took f.taking.long; streams_are = f.none; settled = f.settled; calm = f.calm }
 early_by unfound.InputFault name p old mid new ended known has o f =
-    (rose_since old.faults mid.faults new.faults o.faults f.rose, inr record { bytes = f.bytes; taken = taken name _ f.bytes old mid new o f.taking.took f.taking.long; undecided = f.undecided; calm = f.calm })
-early_by unfound.NoMemory name p old mid new ended known has o f = tt
+    (rose_since old.faults mid.faults new.faults o.faults f.rose, inr record { bytes = f.bytes; taken = taken name _ f.bytes old mid new o f.taking.took f.taking.long; fewer = f.fewer; undecided = f.undecided; calm = f.calm })
+early_by unfound.NoMemory name p old mid new ended known has o f = inr (f.0, taken name _ f.0 old mid new o f.1.took f.1.long)
 
 -- a text with streams is an FLV text
 has_tags : (x : List ℕ) → 0 < stream_count (kinds (reading_of x).tags) → (reading_of x).tags ≡ [] → ⊥
@@ -595,7 +595,11 @@ unmade_early (tee_fault.NoneSelected k) limit f name p old start mid d infos sam
   where
     few : 0 < length infos → infos ≡ [] → ⊥
     few h n = omega (arith, h, ap length n)
-unmade_early tee_fault.NoMemory limit f name p old start mid d infos same none o w known = tt
+unmade_early tee_fault.NoMemory limit f name p old start mid d infos same none o w known = inr (w.bytes, taken name _ w.bytes old start mid o w.took (omega (arith, w.long, same)))
+
+-- memory was wanted once the streams were found
+pub wants_found : (f : Found) (name : List ℕ) (p : Planned) (old start mid : InputState) (ended : Bool) (known : Option Kinds) (has : List ℕ → List Tag → Type 0) → Opened name old start → FoundIn f (clamped p.max_bytes) start mid ended known has → EndsEarly status.NoMemory (asked_with name p) old mid
+wants_found f name p old start mid ended known has o w = inr (w.bytes, taken name _ w.bytes old start mid o w.took (omega (arith, w.long)))
 
 pub seats_found : {S : Type 0} (state : S → ShelfState) (slaves : List Slave) (shelves rest : List S) (seats : List Seat) (infos found : List StreamInfo) (said body : Option (List ℕ)) → infos ≡ found → said ≡ body → AreSeats state infos said slaves shelves seats rest → AreSeats state found body slaves shelves seats rest
 seats_found state slaves shelves rest seats infos found said body e h a =

@@ -78,6 +78,7 @@ pub record FoundIn (f : Found) (limit : ℕ) (old new : InputState) (ended : Boo
 pub record Broke (limit : ℕ) (old new : InputState) : Type 0 where
   pub bytes : List ℕ
   pub taking : Taking limit old new bytes
+  pub fewer : length bytes < limit
   pub rose : Rose old.faults new.faults
   pub undecided : is_decided (probe_of (reading_of bytes).tags) ≡ false
   pub calm : 9 ≤ length bytes → is_refused (reading_of bytes).verdict ≡ false

@@ -1,5 +1,5 @@
 -- The input that a run makes for itself: an FLV text of pictures, with sound beside them.
-use Rattle.std.specs.Prelude.{ℕ, ◌+◌, ◌-◌, ◌*◌, ◌%◌, ◌==◌, ◌&&◌, not, nat_lt, Bool, true, List, [], ◌∷◌, ◌++◌, length, replicate, filter, flat_map, pos, Some, if◌then◌else◌}
+use Rattle.std.specs.Prelude.{ℕ, ◌+◌, ◌*◌, ◌%◌, ◌==◌, ◌&&◌, not, nat_lt, Bool, true, List, [], ◌∷◌, ◌++◌, length, replicate, filter, flat_map, pos, Some, if◌then◌else◌}
 use Rattle.std.specs.List.{range_with_len}
 use Rattle.rmx_media.specs.Bits.{bytes_of}
 use Rattle.flv_tags.specs.Written.{tag_head_bytes, file_head_bytes}

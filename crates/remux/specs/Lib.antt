@@ -25,3 +25,4 @@ pub mod Threads
 pub mod States
 pub mod Report
 pub mod Outcome
+pub mod Complete

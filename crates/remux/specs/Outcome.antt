@@ -78,10 +78,11 @@ pub record Settled (asked : Asked) (infos : List StreamInfo) (old new : InputSta
   pub settled : IsSettled asked.max_bytes bytes new
   pub calm : is_refused (reading_of bytes).verdict ≡ false
 
--- a text that broke off before that
+-- a text that broke off before that, where more might have been taken
 pub record BrokeOff (asked : Asked) (old new : InputState) : Type 0 where
   pub bytes : List ℕ
   pub taken : Taken asked.source asked.max_bytes bytes old new
+  pub fewer : length bytes < asked.max_bytes
   pub undecided : is_decided (probe_of (reading_of bytes).tags) ≡ false
   pub calm : 9 ≤ length bytes → is_refused (reading_of bytes).verdict ≡ false
 
@@ -96,6 +97,10 @@ pub record TakesNone (k : ℕ) (asked : Asked) (old new : InputState) : Type 0 w
   pub first : first_without infos asked.slaves ≡ Some k
   pub settled : Settled asked infos old new
 
+-- memory was wanted: before the input was opened, or with these bytes of it taken
+abbrev pub WantsBefore : Asked → InputState → InputState → Type 0
+WantsBefore asked old new = (new ≡ old) ⊎ ((bytes : List ℕ) × Taken asked.source asked.max_bytes bytes old new)
+
 -- a run that ended before outputs were made
 abbrev pub EndsEarly : Status → Asked → InputState → InputState → Type 0
 EndsEarly status.Done asked old new = ⊥
@@ -107,7 +112,7 @@ EndsEarly (status.InputRefused refusal.NoStreams) asked old new = Settled asked 
 EndsEarly (status.InputRefused (refusal.NoneSelected k)) asked old new = TakesNone k asked old new
 EndsEarly (status.InputEnded e) asked old new = ⊥
 EndsEarly (status.SlaveFailed k) asked old new = ⊥
-EndsEarly status.NoMemory asked old new = Unit {0}
+EndsEarly status.NoMemory asked old new = WantsBefore asked old new
 EndsEarly status.ReportFault asked old new = ⊥
 
 -- the outcome of a run that made no output

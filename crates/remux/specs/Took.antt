@@ -37,7 +37,7 @@ abbrev pub Takes : Result Taken TakeFault → ℕ → InputState → InputState 
 Takes (Ok (taken.Bytes n)) limit old new ended had has = Piece n old new had has × (n ≤ limit) × (n ≤ 65536) × (new.readable ≡ true) × (ended ≡ false)
 Takes (Ok taken.End) limit old new ended had has = Piece 0 old new had has × SawEnd new × (ended ≡ true) × (0 < limit) × (new.readable ≡ false)
 Takes (Ok taken.Limit) limit old new ended had has = Piece 0 old new had has × (limit ≡ 0) × (ended ≡ false)
-Takes (Err fault.Failed) limit old new ended had has = Piece 0 old new had has × Rose old.faults new.faults
+Takes (Err fault.Failed) limit old new ended had has = Piece 0 old new had has × Rose old.faults new.faults × (0 < limit)
 Takes (Err fault.NoMemory) limit old new ended had has = Dropped limit old new had has
 
 -- reading that doesn't fail stays so, and raises no count

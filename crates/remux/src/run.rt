@@ -9,6 +9,7 @@ ghost use Rattle.options.specs.Valid.{IsValidPlan};
 ghost use Rattle.options.specs.Words.{plan, plan_view};
 ghost use Rattle.tee.specs.Keeps.{spare_of};
 ghost use Rattle.tee.specs.Seat.{AreSeats, first_without, Seat};
+ghost use Rattle.remux.specs.Complete.{Completes};
 ghost use Rattle.remux.specs.Asked.{asked_of, asked_with, clamped, pictures_of};
 ghost use Rattle.remux.specs.Generated.{generated};
 ghost use Rattle.remux.specs.Finding.{FoundIn};
@@ -72,6 +73,7 @@ pub fn run_direct<I: Inputs, S: Shelf + Drop, O: Sink>(
     requires idle { All (λ s. (S.state s).writing ≡ false) shelves.items }
     ensures outcome { RunsAs S.state (plan (map string_bytes words.now)) (I.state inputs.old) (I.state inputs.new) shelves.items result }
     ensures report { Reports result (O.state out.old) (O.state out.new) }
+    ensures complete { Completes S.state (plan (map string_bytes words.now)) (I.state inputs.old) (I.state inputs.new) shelves.items (O.state out.old) (O.state out.new) result }
     ensures sound { ReadsSound (plan (map string_bytes words.now)) (I.state inputs.old) (I.state inputs.new) }
 {
     match read_words(alloc, words) {

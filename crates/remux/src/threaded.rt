@@ -9,6 +9,7 @@ ghost use Rattle.options.specs.Words.{plan, plan_view};
 ghost use Rattle.tee.specs.RunEnds.{EndsAllRun};
 ghost use Rattle.tee.specs.RunKeeps.{KeepsRun, dead_in, inlined, infos_of, spare_of, theres_of};
 ghost use Rattle.tee.specs.Seat.{AreSeats, first_without, IsInput, Seat};
+ghost use Rattle.remux.specs.Complete.{Completes};
 ghost use Rattle.remux.specs.Asked.{asked_of, asked_with, clamped, pictures_of};
 ghost use Rattle.remux.specs.Generated.{generated};
 ghost use Rattle.remux.specs.Finding.{FoundIn};
@@ -89,6 +90,7 @@ pub fn run<
     ensures outcome { RunsAsBy EndsAllRun AreKeptRun S.state (plan (map string_bytes words.now)) (I.state inputs.old) (I.state inputs.new) shelves.items result }
     ensures inline { InlinesWithin (P.refused spawner.old) (P.refused spawner.new) result.ends.items }
     ensures report { Reports result (O.state out.old) (O.state out.new) }
+    ensures complete { Completes S.state (plan (map string_bytes words.now)) (I.state inputs.old) (I.state inputs.new) shelves.items (O.state out.old) (O.state out.new) result }
     ensures sound { ReadsSound (plan (map string_bytes words.now)) (I.state inputs.old) (I.state inputs.new) }
 {
     let alloc = rt.alloc();

@@ -1,4 +1,4 @@
-use Rattle.std.proofs.Common.{◌≡◌, ℕ, ◌+◌, List, [], ◌++◌, length, arith, ap, sym, ◌∙◌, length-append}
+use Rattle.std.proofs.Common.{ℕ, ◌+◌, List, length, arith, length-append}
 use Rattle.std.specs.Prelude.{replicate}
 use Rattle.std.proofs.lemmas.List.{length-replicate}
 use Rattle.remux.proofs.MadeTags.{tag_is}

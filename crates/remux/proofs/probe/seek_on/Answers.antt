@@ -21,7 +21,7 @@ returns-in-Ok-Limit-clause-seeks g c = λ limit start b long took late q le.
 pub returns-in-Err-Failed-clause-seeks : goal.returns-in-Err-Failed-clause-seeks
 returns-in-Err-Failed-clause-seeks g c = λ limit start b long took late q le.
     let t = rw c.in-Err-Failed.field-0-is at c.in-Err-Failed.ensures.takes in
-    broke_by limit _ b start _ _ _ _ _ _ long took q t.0 le t.1
+    broke_by limit _ b start _ _ _ _ _ _ long took q t.0 le t.1 t.2
 
 pub returns-in-Err-NoMemory-clause-seeks : goal.returns-in-Err-NoMemory-clause-seeks
 returns-in-Err-NoMemory-clause-seeks g c = λ limit start b long took late q le.

@@ -6,7 +6,8 @@ use Rattle.remux.specs.Asked.{asked_with, clamped}
 use Rattle.remux.specs.Outcome.{IsNothing, unmade_by}
 use Rattle.remux.specs.Starting.{new_line}
 use Rattle.remux.specs.declared.status.Status.{Status}
-use Rattle.remux.proofs.Running.{aborts_by, infos_found, nothing_early, script_found, script_told, seats_found, some_infos, unmade_early}
+use Rattle.remux.specs.declared.status.Status.TheVariants as status
+use Rattle.remux.proofs.Running.{aborts_by, infos_found, nothing_early, script_found, script_told, seats_found, some_infos, unmade_early, wants_found}
 use Rattle.remux.proofs.run.write_found.Goals as goal
 
 pub new-requires-clause-some : goal.new-requires-clause-some
@@ -46,3 +47,8 @@ returns-in-Err-new-clause-comes g c = λ name old start o le w.
     nothing_early g.S.Shelf.state (unmade_by c.in-Err-new.refused.fault) (asked_with name (plan_view c.args.plan.now)) old _ c.args.shelves.items c.nothing-in-Err-new.result
     (subst (λ (l : List _). IsNothing (unmade_by c.in-Err-new.refused.fault) l c.nothing-in-Err-new.result) c.in-Err-new.ensures.back (subst (λ (s : Status). IsNothing s c.in-Err-new.refused.shelves.items c.nothing-in-Err-new.result) c.unmade.ensures c.nothing-in-Err-new.ensures))
     (unmade_early c.in-Err-new.refused.fault (clamped c.args.plan.now.max_bytes) c.args.found name (plan_view c.args.plan.now) old start _ c.args.demux.now c.in-Some.infos.now refl c.in-Err-new.ensures.none o w c.in-Some.ensures.known.1)
+
+pub returns-in-Err-clause-comes : goal.returns-in-Err-clause-comes
+returns-in-Err-clause-comes g c = λ name old start o le w.
+    nothing_early g.S.Shelf.state status.NoMemory (asked_with name (plan_view c.args.plan.now)) old _ c.args.shelves.items c.nothing.result c.nothing.ensures
+    (wants_found c.args.found name (plan_view c.args.plan.now) old start _ _ _ _ o w)
