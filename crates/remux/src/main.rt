@@ -5,6 +5,8 @@ ghost use Rattle.std.specs.Prelude.{◌≡◌, false, length, All, IfOk};
 ghost use Rattle.rmx_edge.specs.Shelf.{ShelfState};
 
 mod carry;
+#[cfg(test)]
+mod cut_reads;
 mod demux;
 mod ending;
 mod explain;
@@ -59,6 +61,9 @@ const LARGE_BLOCK: usize = 1024 * 1024;
 /// What is reported where a word isn't UTF-8 text.
 const NOT_UTF8: &str = "status 1 words fault=1 word=0\n";
 
+/// What is reported where memory is wanted before the run begins.
+const NO_MEMORY: &str = "status 6 no memory\n";
+
 // Has the C library keep freed memory for the next piece of the input. It hands a free end of the heap of more than 128 KiB back to
 // the system, and would so take and return the same pages all the time; once a large block was freed it keeps up to twice as
 // much (mallopt(3), M_MMAP_THRESHOLD). No page of this block is touched.
@@ -95,10 +100,46 @@ fn print_text<R: Print>(rt: &R, text: &str) -> ExitCode {
     }
 }
 
+// What is told where memory is wanted before the run begins. The status stays, also where neither text is taken.
+fn want_memory<R: Print + Eprint>(rt: &R) -> ExitCode {
+    let _ = rt.print(NO_MEMORY);
+    let _ = rt.eprintln("remux: there wasn't enough memory");
+    ExitCode::from(Status::NoMemory.number())
+}
+
+type Host = HostRuntime;
+
+type RealShelves = Vec<DirShelf<Host>>;
+
+type RealInputs = Watched<FileInputs<Host>, Host>;
+
+type RealSink = Wiping<StdSink<Host>, Host>;
+
+// The real outside of a run. It fails for want of memory alone.
+fn outside(rt: &Host) -> io::Result<(RealShelves, RealInputs, RealSink, Arc<OpenGate>)>
+    ensures count { IfOk result (λ o. length o.0.items ≡ 16) }
+    ensures idle { IfOk result (λ o. All (λ s. (⟦<DirShelf<Host> as Shelf>⟧.state s).writing ≡ false) o.0.items) }
+{
+    let alloc = rt.alloc();
+    let mut claims = claims(alloc, SHELVES + 1)?;
+    let shelves = shelves(alloc, rt, &mut claims)?;
+    let Some(claim) = claims.pop() else {
+        return Err(io::Error::from(AllocError));
+    };
+    let waits = rt.stderr().is_terminal();
+    let files = FileInputs::new(rt.clone()?, claim);
+    let inputs = Watched::new(files, rt.clone()?, waits);
+    let out = Wiping::new(StdSink::new(rt.clone()?), rt.clone()?, waits);
+    Ok((shelves, inputs, out, Arc::new(alloc, OpenGate)?))
+}
+
 fn main(rt: HostRuntime) -> io::Result<ExitCode> {
     let alloc = rt.alloc();
     let words: Vec<String> = match env::args(&rt) {
-        Ok(args) => args.skip(1).collect(alloc)?,
+        Ok(args) => match args.skip(1).collect(alloc) {
+            Ok(words) => words,
+            Err(_) => return Ok(want_memory(&rt)),
+        },
         Err(error) if error.kind() == io::ErrorKind::InvalidData => {
             // The status stays, also where neither text is taken.
             let _ = rt.print(NOT_UTF8);
@@ -115,16 +156,9 @@ fn main(rt: HostRuntime) -> io::Result<ExitCode> {
         _ => {}
     }
     keep_freed_memory(alloc);
-    let mut claims = claims(alloc, SHELVES + 1)?;
-    let shelves = shelves(alloc, &rt, &mut claims)?;
-    let Some(claim) = claims.pop() else {
-        return Err(io::Error::from(AllocError));
+    let Ok((shelves, mut inputs, mut out, gate)) = outside(&rt) else {
+        return Ok(want_memory(&rt));
     };
-    let waits = rt.stderr().is_terminal();
-    let files = FileInputs::new(rt.clone()?, claim);
-    let mut inputs = Watched::new(files, rt.clone()?, waits);
-    let mut out = Wiping::new(StdSink::new(rt.clone()?), rt.clone()?, waits);
-    let gate = Arc::new(alloc, OpenGate)?;
     let outcome = run(
         &rt,
         &words,
