@@ -146,6 +146,7 @@ fn main(rt: HostRuntime) -> io::Result<ExitCode> {
             let _ = rt.eprintln("remux: the words must be UTF-8 text");
             return Ok(ExitCode::from(1));
         }
+        Err(error) if error.kind() == io::ErrorKind::OutOfMemory => return Ok(want_memory(&rt)),
         Err(error) => return Err(error),
     };
     match words.as_slice() {
