@@ -39,11 +39,16 @@ const CLOSED: usize = 3;
 
 const FAILED: usize = 4;
 
+// So many messages last the giver longer than the shortest sleep of the taker.
+const PLENTY: u32 = 48;
+
 /// A bounded queue of packets between two threads. Each has one end.
 #[derive(Drop)]
 pub struct Lane {
     pub(crate) table: Table<Option<Msg>, View<Msg, Purpose>, Purpose, Turns, Global>,
     cap: u64,
+    // Whether the taker lets messages gather while it waits. Where the giver drops what finds no room, it doesn't.
+    gathers: bool,
 }
 
 impl Model for Lane {
@@ -109,6 +114,7 @@ impl Lane {
         let lane = Lane {
             table,
             cap: cap as u64,
+            gathers: cap >= PLENTY && !drops,
         };
         Ok((lane, giver, taker))
     }
@@ -202,7 +208,7 @@ impl Lane {
         ensures { IsGiven self.now.cap giver.old giver.new msg }
     {
         let mut msg = msg;
-        let mut backoff = Backoff::new();
+        let mut backoff = Backoff::eager();
         for _ in rt.forever() {
             match self.give(giver, msg) {
                 None => return,
@@ -263,7 +269,11 @@ impl Lane {
         requires { taker.old.ring ≡ self.now.ring }
         ensures { IsTakenAtLast taker.old taker.new result }
     {
-        let mut backoff = Backoff::new();
+        let mut backoff = if self.gathers {
+            Backoff::patient()
+        } else {
+            Backoff::eager()
+        };
         for _ in rt.forever() {
             match self.take(taker) {
                 Taken::Got(msg) => return Taken::Got(msg),
