@@ -1,8 +1,11 @@
 -- What clauses see of a shelf in memory.
-use Rattle.std.specs.Prelude.{◌≡◌, ℕ, Bool, not, ◌&&◌, ◌||◌, ◌⊎◌, Some, None, length, take, ◌==◌, List}
+use Rattle.std.specs.Prelude.{◌≡◌, ℕ, Bool, not, ◌&&◌, ◌||◌, ◌⊎◌, Some, None, Result, Ok, Err, length, take, ◌==◌, List, if◌then◌else◌}
 use Rattle.std.specs.List.{list_any}
 use Rattle.rmx_edge.specs.declared.fail_at.FailAt.{FailAt}
 use Rattle.rmx_edge.specs.declared.mem_shelf.MemShelf.{MemShelf}
+use Rattle.rmx_edge.specs.declared.shelf.ShelfFault.{ShelfFault}
+use Rattle.rmx_edge.specs.declared.shelf.ShelfFault.TheVariants.{Failed, NoMemory}
+use Rattle.rmx_edge.specs.Count.{raised}
 use Rattle.rmx_edge.specs.FailAt.{keep_of}
 use Rattle.rmx_edge.specs.MemTake.{takes_of}
 use Rattle.rmx_edge.specs.Shelf.{ShelfState, ShelfTake, Write, after_call}
@@ -33,6 +36,16 @@ is_dead s = s.dead
 -- whether the next call is to fail
 abbrev pub fails_next : MemShelf → Bool
 fails_next s = s.dead || list_any (λ f. f.call == s.calls) s.fails.items
+
+-- the count of faults after the next call: one more where it is to fail, and else the same
+abbrev pub faults_next : MemShelf → ℕ
+faults_next s = if fails_next s then raised s.faults 1 else s.faults
+
+-- a count of wants after a call: one more where the call wanted memory, and else the same
+abbrev pub wants_after : {T : Type 0} → Result T ShelfFault → ℕ → ℕ
+wants_after (Ok _) wants = wants
+wants_after (Err Failed) wants = wants
+wants_after (Err NoMemory) wants = raised wants 1
 
 -- how much the next write keeps, if it is to fail
 abbrev pub keep_next : MemShelf → ℕ

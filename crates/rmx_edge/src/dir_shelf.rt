@@ -1,5 +1,5 @@
 // Files of the file system as a shelf.
-ghost use Rattle.std.specs.Prelude.{◌≡◌, [], None, is_some, false};
+ghost use Rattle.std.specs.Prelude.{◌≡◌, ◌<◌, [], None, is_some, false, length};
 ghost use Rattle.rmx_edge.specs.Faults.{count_of};
 
 use crate::claim::Claim;
@@ -27,6 +27,8 @@ where
     faults: Faults,
     // So no byte of a file that was given up gets into the next one.
     ghost clean: { is_some file ≡ false → pending.items ≡ [] },
+    // However small the pieces and however late the flush, less than 64 KiB wait.
+    ghost bounded: { length pending.items < 65536 },
 }
 
 impl<R: Files + Drop> DirShelf<R>

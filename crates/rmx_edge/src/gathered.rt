@@ -1,5 +1,5 @@
 // Reads and writes of the system; writes are gathered, so that small pieces cost few calls.
-ghost use Rattle.std.specs.Prelude.{◌≡◌, [], OnOk};
+ghost use Rattle.std.specs.Prelude.{◌≡◌, ◌≤◌, ◌<◌, ◌+◌, ◌↔◌, [], true, length, OnOk};
 ghost use Rattle.std.specs.Io.{ReadsAtMost};
 ghost use Rattle.std.specs.Io.KnownBytes.{Appends, ReadConsumes};
 ghost use Rattle.rmx_edge.specs.Gathered.{Gathers};
@@ -13,6 +13,7 @@ const ROOM: usize = 65536;
 pub fn write_pending<W: Write>(file: &mut W, pending: &mut Vec<u8>) -> io::Result<()>
     ensures told { OnOk result (Appends (W.contents file.old) (W.contents file.new) pending.old.items) }
     ensures none { OnOk result (pending.new.items ≡ []) }
+    ensures bound { length pending.new.items ≤ length pending.old.items }
 {
     match file.write_all(pending) {
         Ok(()) => {
@@ -25,7 +26,9 @@ pub fn write_pending<W: Write>(file: &mut W, pending: &mut Vec<u8>) -> io::Resul
 
 /// Keeps the bytes pending where they fit 64 KiB with what is pending, and else writes them behind it.
 pub fn write_later<W: Write>(file: &mut W, pending: &mut Vec<u8>, bytes: &[u8]) -> io::Result<()>
-    ensures { OnOk result (Gathers (W.contents file.old) pending.old.items (W.contents file.new) pending.new.items bytes.now) }
+    requires { length pending.old.items < 65536 }
+    ensures told { OnOk result (Gathers (W.contents file.old) pending.old.items (W.contents file.new) pending.new.items bytes.now) }
+    ensures bound { length pending.new.items < 65536 }
 {
     if fits(pending.len(), bytes.len()) && pending.extend_from_slice(bytes).is_ok() {
         return Ok(());
@@ -39,7 +42,8 @@ pub fn write_later<W: Write>(file: &mut W, pending: &mut Vec<u8>, bytes: &[u8]) 
 // Keeps the bytes pending where there is room for them, and else writes them. Nothing is pending.
 fn write_behind<W: Write>(file: &mut W, pending: &mut Vec<u8>, bytes: &[u8]) -> io::Result<()>
     requires { pending.old.items ≡ [] }
-    ensures { OnOk result (Gathers (W.contents file.old) [] (W.contents file.new) pending.new.items bytes.now) }
+    ensures told { OnOk result (Gathers (W.contents file.old) [] (W.contents file.new) pending.new.items bytes.now) }
+    ensures bound { length pending.new.items < 65536 }
 {
     if fits(0, bytes.len()) && pending.extend_from_slice(bytes).is_ok() {
         return Ok(());
@@ -47,7 +51,10 @@ fn write_behind<W: Write>(file: &mut W, pending: &mut Vec<u8>, bytes: &[u8]) -> 
     file.write_all(bytes)
 }
 
-fn fits(pending: usize, more: usize) -> bool {
+// Whether both together are less than 64 KiB.
+fn fits(pending: usize, more: usize) -> bool
+    ensures { (result ≡ true) ↔ (pending + more < 65536) }
+{
     pending < ROOM && more < ROOM - pending
 }
 

@@ -82,6 +82,7 @@ impl MemInputs {
 
 impl Inputs for MemInputs {
     ghost use Rattle.std.specs.Prelude.{true, false, min, IsErr, IfOk, ◌⊎◌, ◌↔◌};
+    ghost use Rattle.rmx_edge.specs.Count.{faults_after};
     ghost use Rattle.rmx_edge.specs.Inputs.{Opens, Reads};
     ghost use Rattle.rmx_edge.specs.MemInputs.{state_of, left_of, most_of, fails_next, has_file, GoesOn};
 
@@ -90,6 +91,7 @@ impl Inputs for MemInputs {
     fn open_input(&mut self, name: &str) -> Result<(), Failed>
         ensures opened { Opens name.now result (state_of self.old) (state_of self.new) }
         ensures exact { IsErr result ↔ ((fails_next self.old ≡ true) ⊎ (has_file self.old name.now ≡ false)) }
+        ensures faults { (state_of self.new).faults ≡ faults_after result (state_of self.old).faults }
         ensures goes_on { GoesOn self.old self.new }
     {
         let failing = self.fails_now();
@@ -113,6 +115,7 @@ impl Inputs for MemInputs {
         requires room { 0 < length buf.old }
         ensures taken { Reads result buf.new (state_of self.old) (state_of self.new) }
         ensures exact { IsErr result ↔ (fails_next self.old ≡ true) }
+        ensures faults { (state_of self.new).faults ≡ faults_after result (state_of self.old).faults }
         ensures amount { IfOk result (λ n. n ≡ min (min (length (left_of self.old)) (length buf.old)) (most_of self.old)) }
         ensures goes_on { GoesOn self.old self.new }
     {

@@ -139,7 +139,7 @@ impl MemShelf {
 impl Shelf for MemShelf {
     ghost use Rattle.std.specs.Prelude.{false, IsOk, IsErrOf, ◌↔◌};
     ghost use Rattle.rmx_edge.specs.Shelf.{Create, Write, Close, Makes, Flushes};
-    ghost use Rattle.rmx_edge.specs.MemShelf.{state_of, shown, fails_next, keep_next, KeepsFirst, FailsAsBefore};
+    ghost use Rattle.rmx_edge.specs.MemShelf.{state_of, shown, fails_next, faults_next, wants_after, keep_next, KeepsFirst, FailsAsBefore};
 
     ghost state = { state_of };
 
@@ -147,6 +147,8 @@ impl Shelf for MemShelf {
         requires { (state_of self.old).writing ≡ false }
         ensures made { Makes (Create name.now) result (state_of self.old) (state_of self.new) }
         ensures exact { IsErrOf result ShelfFault.Failed ↔ (fails_next self.old ≡ true) }
+        ensures faults { (state_of self.new).faults ≡ faults_next self.old }
+        ensures wants { (state_of self.new).wants ≡ wants_after result (state_of self.old).wants }
         ensures fails { FailsAsBefore self.old self.new }
     {
         let failing = self.fails_now();
@@ -171,6 +173,8 @@ impl Shelf for MemShelf {
         requires { (state_of self.old).writing ≡ true }
         ensures made { Makes (Write bytes.now) result (state_of self.old) (state_of self.new) }
         ensures exact { IsErrOf result ShelfFault.Failed ↔ (fails_next self.old ≡ true) }
+        ensures faults { (state_of self.new).faults ≡ faults_next self.old }
+        ensures wants { (state_of self.new).wants ≡ wants_after result (state_of self.old).wants }
         ensures fails { FailsAsBefore self.old self.new }
         ensures kept { fails_next self.old ≡ true → KeepsFirst (keep_next self.old) bytes.now (shown self.old) (shown self.new) }
     {
@@ -198,6 +202,9 @@ impl Shelf for MemShelf {
         requires { (state_of self.old).writing ≡ true }
         ensures made { Makes Close result (state_of self.old) (state_of self.new) }
         ensures exact { IsErrOf result ShelfFault.Failed ↔ (fails_next self.old ≡ true) }
+        ensures faults { (state_of self.new).faults ≡ faults_next self.old }
+        ensures wants { (state_of self.new).wants ≡ (state_of self.old).wants }
+        ensures needs_none { IsErrOf result ShelfFault.NoMemory → ⊥ }
         ensures fails { FailsAsBefore self.old self.new }
     {
         let failing = self.fails_now();

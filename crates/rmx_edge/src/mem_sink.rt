@@ -54,6 +54,7 @@ impl MemSink {
 
 impl Sink for MemSink {
     ghost use Rattle.std.specs.Prelude.{true, length, IsErr, ◌+◌, ◌⊎◌, ◌↔◌};
+    ghost use Rattle.rmx_edge.specs.Count.{faults_after};
     ghost use Rattle.rmx_edge.specs.Sink.{Puts};
     ghost use Rattle.rmx_edge.specs.MemSink.{state_of, fails_next, len_of, GoesOn};
 
@@ -62,6 +63,7 @@ impl Sink for MemSink {
     fn write(&mut self, bytes: &[u8]) -> Result<(), Failed>
         ensures put { Puts bytes.now result (state_of self.old) (state_of self.new) }
         ensures exact { IsErr result ↔ ((fails_next self.old ≡ true) ⊎ (8192 < len_of self.old + length bytes.now)) }
+        ensures faults { (state_of self.new).faults ≡ faults_after result (state_of self.old).faults }
         ensures kept { IsErr result → (state_of self.new).bytes ≡ (state_of self.old).bytes }
         ensures goes_on { GoesOn self.old self.new }
     {

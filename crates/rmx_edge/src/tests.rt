@@ -87,6 +87,28 @@ fn what_a_run_has_open_is_safe(rt: HostRuntime) -> Result<(), Fail> {
     Ok(())
 }
 
+// Nothing is lost there, so several outputs of a run may have it open at a time.
+#[test]
+fn a_device_is_open_twice(rt: HostRuntime) -> Result<(), Fail> {
+    let mut claims = claims(rt.alloc(), 2)?;
+    let claim = claims.pop().ok_or("a claim")?;
+    let mut first = DirShelf::new(rt.alloc(), rt.clone()?, claim);
+    let created = first.create("/dev/null");
+    assert_eq!(rt; created, Ok(()));
+    let claim = claims.pop().ok_or("a claim")?;
+    let mut second = DirShelf::new(rt.alloc(), rt.clone()?, claim);
+    let created = second.create("/dev/null");
+    assert_eq!(rt; created, Ok(()));
+    let written = second.write(b"abc");
+    assert_eq!(rt; written, Ok(()));
+    let closed = second.close();
+    assert_eq!(rt; closed, Ok(()));
+    let closed = first.close();
+    assert_eq!(rt; closed, Ok(()));
+    assert_eq!(rt; (first.fault_count(), second.fault_count()), (0, 0));
+    Ok(())
+}
+
 #[test]
 fn a_report_is_printed(rt: HostRuntime) -> Result<(), Fail> {
     let mut sink = StdSink::new(rt.clone()?);
