@@ -6,7 +6,6 @@ ghost use Rattle.bsf_chain.specs.Chain.{are_keepers, is_keeper as keeper};
 ghost use Rattle.bsf_chain.specs.Parse.{chain_of};
 ghost use Rattle.rmx_media.specs.Config.{kind_of, IsAsRead};
 ghost use Rattle.rmx_media.specs.Fits.{IsPayload, Fits};
-ghost use Rattle.rmx_media.specs.Streams.{IsSound};
 ghost use Rattle.rmx_media.specs.declared.streams.MuxStreams.{MuxStreams};
 
 use crate::apply::applied;
@@ -69,7 +68,6 @@ impl Chain {
         info: &StreamInfo,
         p: &Packet,
     ) -> Result<Option<Packet>, NoMemory>
-        requires info { IsSound info.now }
         requires kind { kind_of p.now.config ≡ info.now.kind }
         requires form { p.now.form ≡ Form.Native }
         requires config { IsAsRead p.now.config }
