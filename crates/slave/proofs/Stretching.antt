@@ -102,7 +102,7 @@ later_part more next is p = record {
 later_lives : {g : Origin} {o : FifoOptions} {ts : List Given} {h : History} (more next : History) → next ≡ more ++ h → Lives g o ts h → Lives g o ts next
 later_lives more next is l = record { part = later_part more next is l.part; lives = l.lives }
 
-pub none_yet : (g : Origin) (o : FifoOptions) (h : History) → (s : Stretches g o [] h [] []) × (0 ≡ last_of 0 s.blocks)
+pub none_yet : (g : Origin) (o : FifoOptions) (h : History) → (s : Stretches g o [] h [] []) × (0 ≡ last_of 0 s.blocks) × ([] ≡ s.after)
 none_yet g o h = (
   record {
     blocks = [];
@@ -114,6 +114,7 @@ none_yet g o h = (
     before = λ front b back e. absurd (none_split front b back e);
     gave_up = inl refl;
   },
+  refl,
   refl,
 )
   where
@@ -129,7 +130,7 @@ module _ (g : Origin) (o : FifoOptions) (T U : List Given) (h next more : Histor
 
   -- one message more for an output that was given up
   pub one_after : (seen : List (ℕ × ℕ)) (m : Msg) → mode_is_dead (mode_of o h) ≡ true → mode_is_dead (mode_of o next) ≡ true → U ≡ T ++ sent m ∷ [] → gets ≡ got ++ m ∷ []
-      → seen ≡ numbers → (w : Stretches g o U next gets seen) × (last_of 0 s.blocks ≡ last_of 0 w.blocks)
+      → seen ≡ numbers → (w : Stretches g o U next gets seen) × (last_of 0 s.blocks ≡ last_of 0 w.blocks) × (w.after ≡ s.after ++ m ∷ [])
   unfolding whole_part
   one_after seen m dead stays given got_is seen_is = (
     record {
@@ -148,6 +149,7 @@ module _ (g : Origin) (o : FifoOptions) (T U : List Given) (h next more : Histor
       ]);
     },
     refl,
+    refl,
   )
 
   -- while the output isn't given up, nothing came after that
@@ -161,7 +163,7 @@ module _ (g : Origin) (o : FifoOptions) (T U : List Given) (h next more : Histor
   pub one_turn : (last : ℕ) (seen : List (ℕ × ℕ)) (b : Block) → last ≡ last_of 0 s.blocks → mode_is_dead (mode_of o h) ≡ false
       → U ≡ T ++ given_in (nat_lt last b.number) b → gets ≡ got ++ b.messages → seen ≡ numbers ++ (b.number, length got) ∷ []
       → length b.messages ≤ size_limit (nat_lt last b.number) o.queue_size
-      → (w : Stretches g o U next gets seen) × (larger (nat_lt last b.number) b.number last ≡ last_of 0 w.blocks)
+      → (w : Stretches g o U next gets seen) × (larger (nat_lt last b.number) b.number last ≡ last_of 0 w.blocks) × (w.after ≡ [])
   unfolding whole_part
   one_turn last seen b last_is live given got_is seen_is few = let none = none_after live in
       let bs = s.blocks in
@@ -183,4 +185,5 @@ module _ (g : Origin) (o : FifoOptions) (T U : List Given) (h next more : Histor
           gave_up = inl refl;
         },
         ap (λ (n : ℕ). larger (nat_lt n b.number) b.number n) last_is ∙ sym (last-append 0 bs b),
+        refl,
       )

@@ -19,6 +19,7 @@ pub mod Runs
 pub mod Schedule
 pub mod Sample
 pub mod Segments
+pub mod Starts
 pub mod Stretches
 pub mod Table
 pub mod Task

@@ -10,7 +10,7 @@ ghost use Rattle.slave.specs.Table.{KeepsAll, GrowsAll, Takes};
 ghost use Rattle.slave.specs.End.{EndedAllBy, end_view};
 ghost use Rattle.slave.specs.Stretches.{sent, swept, AreOf, Flushed};
 ghost use Rattle.slave.specs.Purpose.{IsFor};
-ghost use Rattle.slave.specs.Worked.{Worked, fails, one_if};
+ghost use Rattle.slave.specs.Worked.{Worked, fails, got_late, one_if};
 
 use crate::job::{SlaveEnd, SlaveJob};
 use lane::{Lane, Msg, Taken, Taker};
@@ -99,6 +99,7 @@ fn report(lane: &Lane, taker: &mut Taker, given_up: bool, failed: bool) -> bool
     requires only_dead { failed ≡ true → given_up ≡ true }
     ensures told { (result ≡ given_up) × (taker.new.failed ≡ given_up) × (fails taker.new.past ≡ one_if given_up) }
     ensures same { (taker.new.ring ≡ taker.old.ring) × (taker.new.about ≡ taker.old.about) × (taker.new.got ≡ taker.old.got) × (taker.new.numbers ≡ taker.old.numbers) }
+    ensures late { got_late taker.new.past ≡ got_late taker.old.past }
 {
     if given_up && !failed {
         lane.fail(taker);

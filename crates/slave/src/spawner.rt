@@ -1,5 +1,5 @@
 // What starts workers.
-ghost use Rattle.std.specs.Prelude.{◌≡◌, ◌≤◌, ◌+◌, ℕ, [], true, false, IfOk, IfErr, not};
+ghost use Rattle.std.specs.Prelude.{◌≡◌, ◌≤◌, ◌+◌, ℕ, Bool, [], true, false, IfOk, IfErr, not};
 ghost use Rattle.std.specs.Bool.{OnFalse};
 ghost use Rattle.std.specs.Arc.{arc_value};
 ghost use Rattle.fifo_core.specs.declared.types.FifoOptions.{FifoOptions};
@@ -25,17 +25,22 @@ use std::thread::Threads;
 /// Says which starts of workers go on, and counts those that don't. The count never falls, and stands still at its end.
 pub trait Spawner {
     ghost refused: { Self → ℕ };
+    // whether the start goes on before which so many others come
+    ghost goes: { Self → ℕ → Bool };
 
     /// Whether the next start goes on. Where it doesn't, it is counted.
     fn admits(&mut self) -> bool
         ensures never_falls { refused self.old ≤ refused self.new }
         ensures counted { OnFalse result (Rose (refused self.old) (refused self.new)) }
-        ensures kept { result ≡ true → refused self.new ≡ refused self.old };
+        ensures kept { result ≡ true → refused self.new ≡ refused self.old }
+        ensures asked { result ≡ goes self.old 0 }
+        ensures one_less { (n : ℕ) → goes self.new n ≡ goes self.old (n + 1) };
 
     /// Counts a start that failed.
     fn count_refused(&mut self)
         ensures never_falls { refused self.old ≤ refused self.new }
-        ensures counted { Rose (refused self.old) (refused self.new) };
+        ensures counted { Rose (refused self.old) (refused self.new) }
+        ensures same { (n : ℕ) → goes self.new n ≡ goes self.old n };
 }
 
 /// Every start goes on.
@@ -62,12 +67,9 @@ impl ThreadSpawner {
 impl Spawner for ThreadSpawner {
     ghost refused = { λ s. s.refused };
 
-    fn admits(&mut self) -> bool
-        ensures never_falls { self.old.refused ≤ self.new.refused }
-        ensures counted { OnFalse result (Rose self.old.refused self.new.refused) }
-        ensures kept { result ≡ true → self.new.refused ≡ self.old.refused }
-        ensures exact { result ≡ true }
-    {
+    ghost goes = { λ s n. true };
+
+    fn admits(&mut self) -> bool {
         true
     }
 
@@ -106,13 +108,18 @@ impl RefusingSpawner {
 impl Spawner for RefusingSpawner {
     ghost use Rattle.std.specs.Prelude.{◌==◌};
     ghost use Rattle.std.specs.List.{list_any};
+    ghost use Rattle.slave.specs.Starts.{is_unlisted};
 
     ghost refused = { λ s. s.refused };
+
+    ghost goes = { λ s n. is_unlisted s.starts.items s.next n };
 
     fn admits(&mut self) -> bool
         ensures never_falls { self.old.refused ≤ self.new.refused }
         ensures counted { OnFalse result (Rose self.old.refused self.new.refused) }
         ensures kept { result ≡ true → self.new.refused ≡ self.old.refused }
+        ensures asked { result ≡ is_unlisted self.old.starts.items self.old.next 0 }
+        ensures one_less { (n : ℕ) → is_unlisted self.new.starts.items self.new.next n ≡ is_unlisted self.old.starts.items self.old.next (n + 1) }
         ensures exact { result ≡ not (list_any (λ n. n == self.old.next) self.old.starts.items) }
         ensures numbered { (self.new.next ≡ raised self.old.next 1) × (self.new.starts ≡ self.old.starts) }
     {
@@ -127,6 +134,7 @@ impl Spawner for RefusingSpawner {
     fn count_refused(&mut self)
         ensures never_falls { self.old.refused ≤ self.new.refused }
         ensures counted { Rose self.old.refused self.new.refused }
+        ensures same { (n : ℕ) → is_unlisted self.new.starts.items self.new.next n ≡ is_unlisted self.old.starts.items self.old.next n }
         ensures numbered { (self.new.next ≡ self.old.next) × (self.new.starts ≡ self.old.starts) }
     {
         self.refused = self.refused.saturating_add(1);
@@ -155,6 +163,8 @@ pub fn start<
     ensures err { IfErr result (λ e. (e.0 ≡ job) × (e.1 ≡ taker) × Rose (P.refused spawner.old) (P.refused spawner.new)) }
     ensures never_falls { P.refused spawner.old ≤ P.refused spawner.new }
     ensures kept { IfOk result (λ r. P.refused spawner.new ≡ P.refused spawner.old) }
+    ensures asked { IfOk result (λ r. P.goes spawner.old 0 ≡ true) }
+    ensures one_less { (n : ℕ) → P.goes spawner.new n ≡ P.goes spawner.old (n + 1) }
 {
     if !spawner.admits() {
         return Err((job, taker));

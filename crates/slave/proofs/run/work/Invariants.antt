@@ -4,7 +4,7 @@ use Rattle.slave.specs.Origin.{Origin}
 use Rattle.slave.specs.Fresh.{IsFresh}
 use Rattle.slave.specs.Job.{view_of}
 use Rattle.slave.specs.Purpose.{IsFor}
-use Rattle.slave.specs.Worked.{fails, one_if}
+use Rattle.slave.specs.Worked.{fails, got_late, one_if}
 use Rattle.slave.proofs.Working.{Going}
 use Rattle.slave.proofs.run.work.Given as goal
 
@@ -15,5 +15,5 @@ invariant-loop g l = record {
   failed_is : l.taker.failed ≡ l.failed;
   once : fails l.taker.past ≡ one_if l.failed;
   going : (out : Origin) (o : FifoOptions) → IsFresh out o (view_of g.S.Shelf.state l.fn.job) → IsFor out l.initial.taker.about
-      → Going out o l.taker.got l.taker.numbers l.queue_size l.last l.failed (view_of g.S.Shelf.state l.job);
+      → Going out o l.taker.got l.taker.numbers l.queue_size l.last l.failed (got_late l.taker.past) (view_of g.S.Shelf.state l.job);
 }
