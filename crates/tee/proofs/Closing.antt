@@ -16,7 +16,7 @@ use Rattle.tee.specs.Attends.{Attends, IsStarted}
 use Rattle.tee.specs.Each.{Each3}
 use Rattle.tee.specs.Fails.{all_of, any_both, any_want, failed_slave, first_failed_from, is_failed, is_want}
 use Rattle.tee.specs.Rides.{Rides, Shuts}
-use Rattle.tee.specs.RunEnds.{EndsAs, EndsOn, EndsAllRun, EndsThere, inline_ends}
+use Rattle.tee.specs.RunEnds.{AllEndWith, EndsAs, EndsOn, EndsShort, EndsThere, EndsWith, any_short, inline_ends, is_short}
 use Rattle.tee.specs.RunKeeps.{KeepsRun, dead_in, inlined}
 use Rattle.tee.specs.Seat.{Seat, aborts, chosen}
 use Rattle.tee.specs.Sits.{EndsAt, Sits}
@@ -29,6 +29,7 @@ use Rattle.tee.specs.declared.run.TeeRun.{TeeRun}
 use Rattle.tee.specs.declared.sender.Sender.{Sender}
 use Rattle.tee.proofs.Finish.{both_by, either_found, failed_by, found_by, neither, over_when}
 use Rattle.tee.proofs.Joined.{unclosed_there}
+use Rattle.tee.proofs.Places.{each_unsnoc}
 
 rides_shut : (infos : List StreamInfo) (given : List Packet) (asked : ℕ) (seat : Seat) (told : Option ℕ) (old new : Sender) → Rides infos given asked seat told old → Shuts old new → Rides infos given asked seat told new
 rides_shut infos given asked seat told old new r s = record {
@@ -79,43 +80,90 @@ there_rode G ghosts state infos given asked s (There told) sender running a = (t
 pub here_ends : {S : Type 0} {ghosts : Ghosts S} (G : Type 0) (state : S → ShelfState) (infos : List StreamInfo) (given : List Packet) (asked : ℕ) (s : Seat) (t : Track) (slave : TeeSlave S ghosts) (inline : Bool) (left : Filtered)
     (old new : SlaveEnd S) → Attends {S = S} {G = G} {ghosts = ghosts} state infos given asked true s t (outlet.Here slave inline left)
     → ((h : History) → Sits state infos given s h slave → EndsAt state given s h old)
-    → new ≡ record old { inline = inline } → EndsAs state given s t new
+    → new ≡ record old { inline = inline } → EndsWith state given s t new false
 here_ends G state infos given asked s (Here h) slave inline left old new a f e =
     let at = f h a.0 in
     let was : old.inline ≡ false = at.ended.0.inline in
     let view : record (end_view state new) { inline = false } ≡ end_view state old = rw (e, ← was) refl in
-    record {
+    let k : EndsAs state given s (Here h) new = record {
       on = record { ended = subst (λ (v : EndView). EndedBy s.origin s.slave.fifo (chosen s given) h v) (sym view) at.ended; inline = rw e a.1 };
       given_up = λ d. rw e (at.given_up d);
-    }
+    } in
+    (k, refl)
 here_ends G state infos given asked s (There told) slave inline left old new a f e = absurd a
 
-pub there_ends : {S : Type 0} (G : Type 0) (ghosts : Ghosts S) (state : S → ShelfState) (infos : List StreamInfo) (given : List Packet) (s : Seat) (t : Track) (sender : Sender) (running : Task) (e : SlaveEnd S)
+pub there_ends : {S : Type 0} (G : Type 0) (ghosts : Ghosts S) (state : S → ShelfState) (infos : List StreamInfo) (given : List Packet) (s : Seat) (t : Track) (sender : Sender) (running : Task) (e : SlaveEnd S) (short : Bool)
     → Attends {S = S} {G = G} {ghosts = ghosts} state infos given (length given) true s t (outlet.There sender running)
-    → ((told : Option ℕ) → Rides infos given (length given) s told sender → IsStarted s sender running → EndsThere s given told (end_view state e)) → EndsAs state given s t e
-there_ends G ghosts state infos given s (Here h) sender running e a f = absurd a
-there_ends G ghosts state infos given s (There told) sender running e a f =
+    → ((told : Option ℕ) → Rides infos given (length given) s told sender → IsStarted s sender running → (k : EndsThere s given told (end_view state e)) × (short ≡ k.short)) → EndsWith state given s t e short
+there_ends G ghosts state infos given s (Here h) sender running e short a f = absurd a
+there_ends G ghosts state infos given s (There told) sender running e short a f =
     let on = f told a.0 a.1 in
-    record { on = on; given_up = λ d. unclosed_there s given told (end_view state e) on d }
+    let k : EndsAs state given s (There told) e = record { on = on.0; given_up = λ d. unclosed_there s given told (end_view state e) on.0 d } in
+    (k, on.1)
+
+or_none : (b : Bool) → b ≡ (b || false)
+or_none true = refl
+or_none false = refl
+
+or_assoc : (a b c : Bool) → ((a || b) || c) ≡ (a || (b || c))
+or_assoc true b c = refl
+or_assoc false b c = refl
+
+-- one end more
+all_snoc : {S : Type 0} (state : S → ShelfState) (given : List Packet) (ss : List Seat) (ts : List Track) (es : List (SlaveEnd S)) (s : Seat) (t : Track) (e : SlaveEnd S) (was wanted : Bool)
+    → AllEndWith state given ss ts es was → EndsWith state given s t e wanted → AllEndWith state given (ss ++ s ∷ []) (ts ++ t ∷ []) (es ++ e ∷ []) (was || wanted)
+all_snoc state given [] [] [] s t e was wanted a k = (wanted, false, k, refl, ap (λ (b : Bool). b || wanted) a ∙ or_none wanted)
+all_snoc state given [] [] (z ∷ es) s t e was wanted a k = absurd a
+all_snoc state given [] (y ∷ ts) es s t e was wanted a k = absurd a
+all_snoc state given (x ∷ ss) [] es s t e was wanted a k = absurd a
+all_snoc state given (x ∷ ss) (y ∷ ts) [] s t e was wanted a k = absurd a
+all_snoc state given (x ∷ ss) (y ∷ ts) (z ∷ es) s t e was wanted a k =
+    (a.0, a.1 || wanted, a.2, all_snoc state given ss ts es s t e a.1 wanted a.3 k, ap (λ (b : Bool). b || wanted) a.4 ∙ or_assoc a.0 a.1 wanted)
+
+-- what is made of the outputs before the last, and of the last
+pub all_last : {S C : Type 0} (state : S → ShelfState) (given : List Packet) (P : Seat → Track → C → Type 0) (ss : List Seat) (ts : List Track) (os : List C) (o : C) (es : List (SlaveEnd S)) (e : SlaveEnd S)
+    (was wanted : Bool) → ((xs : List Seat) (ys : List Track) → Each3 P xs ys os → AllEndWith state given xs ys es was) → ((s : Seat) (t : Track) → P s t o → EndsWith state given s t e wanted)
+    → Each3 P ss ts (os ++ o ∷ []) → AllEndWith state given ss ts (es ++ e ∷ []) (was || wanted)
+all_last state given P ss ts os o es e was wanted f h a =
+    let n = each_unsnoc P ss ts os o a in
+    subst (λ (xs : List Seat). AllEndWith state given xs ts (es ++ e ∷ []) (was || wanted)) (sym n.firsts_are)
+    (subst (λ (ys : List Track). AllEndWith state given (n.firsts ++ n.a ∷ []) ys (es ++ e ∷ []) (was || wanted)) (sym n.seconds_are)
+    (all_snoc state given n.firsts n.seconds es n.a n.b e was wanted (f n.firsts n.seconds n.front) (h n.a n.b n.last)))
+
+-- none is none
+pub all_none : {S C : Type 0} (state : S → ShelfState) (given : List Packet) (P : Seat → Track → C → Type 0) (ss : List Seat) (ts : List Track) → Each3 P ss ts [] → AllEndWith {S = S} state given ss ts [] false
+all_none state given P [] [] a = refl
+all_none state given P [] (t ∷ ts) a = absurd a
+all_none state given P (s ∷ ss) [] a = absurd a
+all_none state given P (s ∷ ss) (t ∷ ts) a = absurd a
 
 -- all of them
-pub all_on : {S : Type 0} (state : S → ShelfState) (given : List Packet) (ss : List Seat) (ts : List Track) (es : List (SlaveEnd S)) → Each3 (EndsAs state given) ss ts es → Each3 (EndsOn given) ss ts (map (end_view state) es)
-all_on state given [] [] [] a = tt
-all_on state given [] [] (e ∷ es) a = absurd a
-all_on state given [] (t ∷ ts) [] a = absurd a
-all_on state given [] (t ∷ ts) (e ∷ es) a = absurd a
-all_on state given (s ∷ ss) [] [] a = absurd a
-all_on state given (s ∷ ss) [] (e ∷ es) a = absurd a
-all_on state given (s ∷ ss) (t ∷ ts) [] a = absurd a
-all_on state given (s ∷ ss) (t ∷ ts) (e ∷ es) a = (a.0.on, all_on state given ss ts es a.1)
+pub all_as : {S : Type 0} (state : S → ShelfState) (given : List Packet) (ss : List Seat) (ts : List Track) (es : List (SlaveEnd S)) (short : Bool) → AllEndWith state given ss ts es short → Each3 (EndsAs state given) ss ts es
+all_as state given [] [] [] short a = tt
+all_as state given [] [] (e ∷ es) short a = absurd a
+all_as state given [] (t ∷ ts) es short a = absurd a
+all_as state given (s ∷ ss) [] es short a = absurd a
+all_as state given (s ∷ ss) (t ∷ ts) [] short a = absurd a
+all_as state given (s ∷ ss) (t ∷ ts) (e ∷ es) short a = (a.2.0, all_as state given ss ts es a.1 a.3)
 
-pub ends_run : {S G : Type 0} {ghosts : Ghosts S} (state : S → ShelfState) (run : TeeRun S G ghosts) (seats : List Seat) (given : List Packet) (es : List (SlaveEnd S)) → (k : KeepsRun state run seats given)
-    → Each3 (EndsAs state given) seats k.stands.tracks es → EndsAllRun seats given (dead_in run) (map (end_view state) es)
-ends_run state run seats given es k a = record {
-  tracks = k.stands.tracks;
-  each = all_on state given seats k.stands.tracks es a;
-  stood = k.stands.watches.stood;
-}
+all_on : {S : Type 0} (state : S → ShelfState) (given : List Packet) (ss : List Seat) (ts : List Track) (es : List (SlaveEnd S)) (short : Bool) → AllEndWith state given ss ts es short
+    → (on : Each3 (EndsOn given) ss ts (map (end_view state) es)) × (short ≡ any_short given ss ts (map (end_view state) es) on)
+all_on state given [] [] [] short a = (tt, a)
+all_on state given [] [] (e ∷ es) short a = absurd a
+all_on state given [] (t ∷ ts) es short a = absurd a
+all_on state given (s ∷ ss) [] es short a = absurd a
+all_on state given (s ∷ ss) (t ∷ ts) [] short a = absurd a
+all_on state given (s ∷ ss) (t ∷ ts) (e ∷ es) short a =
+    let more = all_on state given ss ts es a.1 a.3 in (
+      (a.2.0.on, more.0),
+      a.4 ∙ ap (λ (b : Bool). b || a.1) a.2.1 ∙ ap (λ (b : Bool). is_short given s t (end_view state e) a.2.0.on || b) more.1,
+    )
+
+pub ends_short : {S G : Type 0} {ghosts : Ghosts S} (state : S → ShelfState) (run : TeeRun S G ghosts) (seats : List Seat) (given : List Packet) (es : List (SlaveEnd S)) (short : Bool) → (k : KeepsRun state run seats given)
+    → AllEndWith state given seats k.stands.tracks es short → EndsShort seats given (dead_in run) (map (end_view state) es) short
+ends_short state run seats given es short k a =
+    let on = all_on state given seats k.stands.tracks es short a in
+    (record { tracks = k.stands.tracks; each = on.0; stood = k.stands.watches.stood }, on.1)
 
 abbrev states_of : {S : Type 0} → List (SlaveEnd S) → List EndState
 states_of es = map (λ e. e.state) es

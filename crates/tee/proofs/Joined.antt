@@ -72,7 +72,7 @@ pub ends_there : {S : Type 0} (state : S → ShelfState) (infos : List StreamInf
     → Rides infos given (length given) seat told s → IsStarted seat s task → Worked state task.job task.taker w → Settled s w.taker.ended w.taker.failed w.taker.got w.taker.numbers counts
     → AddsLane (note_of s counts) (end_view state w.end) new short
     → ((g : Origin) (o : FifoOptions) (L : List Packet) (T : List Given) (numbers : List (ℕ × ℕ)) → EndedAll g o T (end_view state w.end) → Dealt L T numbers (note_of s counts) → AccountsLane g o L (note_of s counts) new)
-    → EndsThere seat given told new
+    → (k : EndsThere seat given told new) × (short ≡ k.short)
 ends_there state infos given seat told s task w counts new short r st worked settled adds accounts =
     let g = seat.origin in
     let o = seat.slave.fifo in
@@ -91,7 +91,7 @@ ends_there state infos given seat told s task w counts new short r st worked set
     let dealt : Dealt L wf.given w.taker.numbers n = lanes_deal L s.giver.given s.giver.refusals wf.given w.taker.numbers n handed overs settled.saw passed
     (λ i v at. stretch_of g o wf.given wf.ends.history w.taker.got w.taker.numbers n.cap i v r.cap wf.stretches at) in
     let many = as_many o.queue_size o.queue_bytes L s.giver.given s.giver.refusals s.receipts.items r.offered.handed in
-    record {
+    let k : EndsThere seat given told new = record {
       turns = wf.given;
       got = w.taker.got;
       numbers = w.taker.numbers;
@@ -119,4 +119,5 @@ ends_there state infos given seat told s task w counts new short r st worked set
         blocks = λ quiet. none_by s.receipts.items s.giver.refusals many (settled.blocks (r.lane.drops ∙ quiet));
       };
       inline = adds.inline ∙ wf.ends.inline;
-    }
+    } in
+    (k, refl)

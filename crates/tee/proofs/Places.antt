@@ -1,5 +1,5 @@
 -- Three lists, place by place, and loops over them.
-use Rattle.std.proofs.Common.{◌≡◌, ℕ, zero, suc, ◌<◌, ◌+◌, List, [], ◌∷◌, ◌++◌, length, get_or, set, add-one, refl, ap, sym, subst, arith}
+use Rattle.std.proofs.Common.{◌≡◌, ℕ, zero, suc, ◌<◌, ◌+◌, List, [], ◌∷◌, ◌++◌, length, get_or, set, add-one, refl, ap, arith}
 use Rattle.tee.specs.Each.{Each3, Between3}
 
 module _ {A B C : Type 0} (P Q : A → B → C → Type 0) where
@@ -86,13 +86,6 @@ module _ {A B C : Type 0} (P : A → B → C → Type 0) where
   each_snoc (x ∷ us) (y ∷ bs) [] a b c e p = absurd e
   each_snoc (x ∷ us) (y ∷ bs) (z ∷ cs) a b c e p = (e.0, each_snoc us bs cs a b c e.1 p)
 
--- none is none
-pub each_none : {A B C D : Type 0} (P : A → B → C → Type 0) (Q : A → B → D → Type 0) (us : List A) (bs : List B) → Each3 P us bs [] → Each3 Q us bs []
-each_none P Q [] [] e = tt
-each_none P Q [] (b ∷ bs) e = absurd e
-each_none P Q (a ∷ us) [] e = absurd e
-each_none P Q (a ∷ us) (b ∷ bs) e = absurd e
-
 -- the last place, and those before it
 pub record Last {A B C : Type 0} (P : A → B → C → Type 0) (us : List A) (bs : List B) (cs : List C) (c : C) : Type 0 where
   pub firsts : List A
@@ -130,16 +123,6 @@ each_unsnoc {A} {B} P (a ∷ us) (b ∷ bs) (x ∷ cs) c e =
       front = (e.0, r.front);
       last = r.last;
     }
-
--- what is made of the thirds before the last, and of the last
-pub each_last : {A B C D : Type 0} (P : A → B → C → Type 0) (Q : A → B → D → Type 0) (us : List A) (bs : List B) (cs : List C) (c : C) (ds : List D) (d : D)
-    → ((xs : List A) (ys : List B) → Each3 P xs ys cs → Each3 Q xs ys ds) → ((a : A) (b : B) → P a b c → Q a b d)
-    → Each3 P us bs (cs ++ c ∷ []) → Each3 Q us bs (ds ++ d ∷ [])
-each_last {A} {B} {C} {D} P Q us bs cs c ds d f h e =
-    let n = each_unsnoc P us bs cs c e in
-    subst (λ (xs : List A). Each3 Q xs bs (ds ++ d ∷ [])) (sym n.firsts_are)
-    (subst (λ (ys : List B). Each3 Q (n.firsts ++ n.a ∷ []) ys (ds ++ d ∷ [])) (sym n.seconds_are)
-    (each_snoc Q n.firsts n.seconds ds n.a n.b d (f n.firsts n.seconds n.front) (h n.a n.b n.last)))
 
 -- where each place has a new second for its third, there is a list of these
 pub record Renewed {A B C D : Type 0} (Q : A → D → C → Type 0) (R : A → B → D → Type 0) (us : List A) (bs : List B) (cs : List C) : Type 0 where

@@ -6,7 +6,7 @@ ghost use Rattle.rmx_media.specs.declared.streams.StreamInfo.{StreamInfo as Info
 ghost use Rattle.slave.specs.End.{end_view};
 ghost use Rattle.tee.specs.Attends.{Attends, IsStarted};
 ghost use Rattle.tee.specs.Rides.{Rides};
-ghost use Rattle.tee.specs.RunEnds.{EndsAs, EndsThere};
+ghost use Rattle.tee.specs.RunEnds.{EndsThere, EndsWith};
 ghost use Rattle.tee.specs.Seat.{Seat};
 ghost use Rattle.tee.specs.Tracks.{Track};
 
@@ -39,7 +39,7 @@ fn join<S: Shelf + Drop, G: Gate + Drop, R: Threads + Wait>(
 ) -> (SlaveEnd<S>, bool)
     requires ready { (infos : List Info) × (given : List Piece) × (seat : Seat) × (told : Option ℕ) × Rides infos given (length given) seat told sender × IsStarted seat sender running }
     ensures ends { (infos : List Info) (given : List Piece) (seat : Seat) (told : Option ℕ) → Rides infos given (length given) seat told sender → IsStarted seat sender running
-        → EndsThere seat given told (end_view S.state result.0) }
+        → (k : EndsThere seat given told (end_view S.state result.0)) × (result.1 ≡ k.short) }
     ensures short { result.1 ≡ true → result.0.state ≡ NoMemory }
 {
     let Sender {
@@ -89,7 +89,7 @@ impl<S: Shelf + Drop, G: Gate + Drop> Outlet<S, G> {
     pub fn finish<R: Threads + Wait>(self, rt: &R, alloc: Global) -> (SlaveEnd<S>, bool)
         requires ready { (infos : List Info) × (given : List Piece) × (seat : Seat) × (track : Track) × Attends S.state infos given (length given) true seat track self }
         ensures ends { (infos : List Info) (given : List Piece) (seat : Seat) (track : Track) → Attends S.state infos given (length given) true seat track self
-            → EndsAs S.state given seat track result.0 }
+            → EndsWith S.state given seat track result.0 result.1 }
         ensures short { result.1 ≡ true → result.0.state ≡ NoMemory }
     {
         match self {

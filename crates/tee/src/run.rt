@@ -120,7 +120,7 @@ impl<S: Shelf, G: Gate> TeeRun<S, G> {
 }
 
 impl<S: Shelf + Drop, G: Gate + Drop> TeeRun<S, G> {
-    ghost use Rattle.tee.specs.RunEnds.{EndsAllRun, inline_ends};
+    ghost use Rattle.tee.specs.RunEnds.{EndsAllRun, EndsShort, inline_ends};
     ghost use Rattle.tee.specs.RunKeeps.{KeepsRun, dead_in, inlined, spare_of, theres_of};
 
     /// Closes every lane, and ends all outputs; their threads are waited for.
@@ -132,6 +132,9 @@ impl<S: Shelf + Drop, G: Gate + Drop> TeeRun<S, G> {
             → any_want (map (λ e. e.state) result.ends.items) ≡ false → is_some (failed_slave (aborts seats) (map (λ e. e.state) result.ends.items)) ≡ true }
         ensures inline { (seats : List Seat) (given : List Piece) → KeepsRun S.state self seats given → inline_ends (map (end_view S.state) result.ends.items) ≡ inlined seats (theres_of self) }
         ensures spare { result.spare.items ≡ spare_of self }
+        // The end is short exactly where memory was wanted for the refusals of a lane, so that none of them was entered.
+        ensures unentered { (seats : List Seat) (given : List Piece) → KeepsRun S.state self seats given
+            → EndsShort seats given (dead_in self) (map (end_view S.state) result.ends.items) result.short }
         ensures short { result.short ≡ true → any_want (map (λ e. e.state) result.ends.items) ≡ true }
     {
         let TeeRun {

@@ -5,7 +5,7 @@ ghost use Rattle.rmx_media.specs.declared.streams.StreamInfo.{StreamInfo};
 ghost use Rattle.tee.specs.Attends.{Attends};
 ghost use Rattle.tee.specs.Each.{Each3};
 ghost use Rattle.tee.specs.Fails.{any_want};
-ghost use Rattle.tee.specs.RunEnds.{EndsAs};
+ghost use Rattle.tee.specs.RunEnds.{AllEndWith};
 ghost use Rattle.tee.specs.Seat.{Seat};
 ghost use Rattle.tee.specs.Tracks.{Track};
 
@@ -68,7 +68,7 @@ pub fn finish_each<S: Shelf + Drop, G: Gate + Drop, R: Threads + Wait>(
     requires none { ends.items ≡ [] }
     requires room { length outlets.items ≤ ends.spare }
     ensures ends { (infos : List StreamInfo) (given : List Packet) (seats : List Seat) (tracks : List Track)
-        → Each3 (Attends S.state infos given (length given) true) seats tracks outlets.items → Each3 (EndsAs S.state given) seats tracks result.0.items }
+        → Each3 (Attends S.state infos given (length given) true) seats tracks outlets.items → AllEndWith S.state given seats tracks result.0.items result.1 }
     ensures short { result.1 ≡ true → any_want (map (λ e. e.state) result.0.items) ≡ true }
     ensures left { result.0.spare + length outlets.items ≡ ends.spare }
 {

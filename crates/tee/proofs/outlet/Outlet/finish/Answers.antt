@@ -26,6 +26,6 @@ join-requires g c =
 
 pub returns-clause-ends : goal.returns-clause-ends
 returns-clause-ends g c = λ infos given seat track a.
-    there_ends g.row.G.Denot g.S.Shelf g.S.Shelf.state infos given seat track c.in-There.sender c.in-There.running c.join.result.0
+    there_ends g.row.G.Denot g.S.Shelf g.S.Shelf.state infos given seat track c.in-There.sender c.in-There.running c.join.result.0 c.join.result.1
     (subst (λ (o : Outlet g.row.S.Denot g.row.G.Denot g.S.Shelf). Attends g.S.Shelf.state infos given (length given) true seat track o) c.in-There.is a)
     (λ told r st. c.join.ensures.ends infos given seat told r st)
