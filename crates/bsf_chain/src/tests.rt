@@ -22,11 +22,7 @@ fn bytes(alloc: Global, list: &[u8]) -> Result<Bytes, NoMemory>
 
 #[test]
 fn faults_are_named(rt: HostRuntime) -> Result<(), Fail> {
-    let text = format!(in rt.alloc();
-        "{} {}",
-        BsfFault::UnknownFilter,
-        BsfFault::BadArgument
-    )?;
+    let text = format!(in rt.alloc(); "{} {}", BsfFault::UnknownFilter, BsfFault::BadArgument)?;
     assert_eq!(rt; text.as_str(), "UnknownFilter BadArgument");
     Ok(())
 }
