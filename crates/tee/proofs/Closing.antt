@@ -22,7 +22,6 @@ use Rattle.tee.specs.Seat.{Seat, aborts, chosen}
 use Rattle.tee.specs.Sits.{EndsAt, Sits}
 use Rattle.tee.specs.Tracks.{Track, Here, There, is_there, known_dead, known_deads, one_if, theres}
 use Rattle.tee.specs.declared.filter.Filtered.{Filtered}
-use Rattle.tee.specs.declared.outlet.Outlet.{Outlet}
 use Rattle.tee.specs.declared.outlet.Outlet.TheVariants as outlet
 use Rattle.tee.specs.declared.output.TeeSlave.{TeeSlave}
 use Rattle.tee.specs.declared.run.TeeRun.{TeeRun}

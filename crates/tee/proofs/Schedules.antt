@@ -1,5 +1,5 @@
 -- The schedule plays no part where nothing is dropped.
-use Rattle.std.proofs.Common.{◌≡◌, ℕ, inl, inr, Bool, true, false, List, sym, ◌∙◌, subst}
+use Rattle.std.proofs.Common.{◌≡◌, inl, inr, Bool, true, false, List, sym, ◌∙◌, subst}
 use Rattle.rmx_media.specs.declared.packet.Packet.{Packet}
 use Rattle.slave.specs.End.{EndView}
 use Rattle.slave.specs.Schedule.{EndsBlocking, FaultsDecide}
