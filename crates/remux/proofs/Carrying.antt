@@ -9,7 +9,7 @@ use Rattle.flv_tags.specs.Tags.{reading_of}
 use Rattle.flv_demux.specs.declared.deal.Kinds.{Kinds}
 use Rattle.flv_demux.specs.Probe.{probe_of, is_decided}
 use Rattle.flv_demux.specs.Deal.{packets_by, last_dts}
-use Rattle.interleaver.specs.Interleave.{interleave}
+use Rattle.interleaver.specs.Interleave.{interleave, emitted}
 use Rattle.interleaver.specs.Queues.{Pending, last_of}
 use Rattle.rmx_edge.specs.Inputs.{InputState}
 use Rattle.tee.specs.declared.fed.Fed.TheVariants.{More, Stop}
@@ -29,7 +29,7 @@ use Rattle.remux.proofs.Counting.{ready_for, ready_all}
 use Rattle.remux.proofs.Flushing.{whole_order}
 use Rattle.remux.proofs.Least.{least_tags}
 use Rattle.remux.proofs.Probing.{not_both}
-use Rattle.remux.proofs.Pumping.{flowing_more, stopped_by, all_given, cut_at, in_order, few_streams}
+use Rattle.remux.proofs.Pumping.{flowing_more, stopped_by, all_given, all_out, cut_at, in_order, few_streams}
 use Rattle.remux.proofs.Reading.{short_of}
 use Rattle.remux.proofs.Starting.{no_packets}
 use Rattle.remux.proofs.Taking.{took_none}
@@ -189,8 +189,20 @@ out_of_all stopped s b known has v rest k0 k1 d0 d1 t a fl =
           (whole_order (packets_by s f.tags) f.given v f.stuck f.flow ∙ ap (λ (xs : List Packet). f.given ++ xs) fl.whole ∙ sym (append_assoc f.given fl.packets rest));
       alive = λ u l m. living (length f.given) (length fl.packets) f.alive adv u l (omega (arith, len, m));
       last = by stopped refl len adv;
+      late = λ some dies.
+          let e : length (emitted v.streams v.delta (packets_by s (reading_of b).tags)) ≡ length f.given =
+          subst (λ (ts : List Tag). length (emitted v.streams v.delta (packets_by s ts)) ≡ length f.given) a.all (ap length (all_out (packets_by s f.tags) f.given v f.stuck f.flow)) in
+          omega (arith, e, len, at_the_end (length f.given) (length fl.packets) f.alive adv (omega (arith, some, len)) (sym (ap d1 len) ∙ dies));
     }
   where
+    -- what went out before the end left the outputs alive
+    at_the_end : (n m : ℕ) → ((u : ℕ) → 0 < u → u ≤ n → d0 u ≡ false) → Advances stopped d0 d1 n (n + m) → 0 < n + m → d1 (n + m) ≡ true → 0 < m
+    at_the_end n m alive adv some dies = at (cases_lt 0 m)
+      where
+        at : (0 < m) ⊎ (m ≤ 0) → 0 < m
+        at (inl x) = x
+        at (inr x) = absurd (not_both (d1 (n + m)) dies (adv.same (n + m) (omega (arith, x)) ∙ alive (n + m) some (omega (arith, x))))
+
     living : (n m : ℕ) → ((u : ℕ) → 0 < u → u ≤ n → d0 u ≡ false) → Advances stopped d0 d1 n (n + m) → (u : ℕ) → 0 < u → u < n + m → d1 u ≡ false
     living n m alive adv u l lt = at (cases_lt n u)
       where

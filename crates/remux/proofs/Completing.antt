@@ -327,6 +327,10 @@ early_well (status.SlaveFailed k) asked text old new some there good calm e = ab
 early_well status.NoMemory asked text old new some there good calm e = inr refl
 early_well status.ReportFault asked text old new some there good calm e = absurd e
 
+-- a reading that stopped early found an output dead
+stopped_dies : (e : ReadEnd) → e ≡ read_end.Stop → (limit delta : ℕ) (old new : InputState) (bytes : List ℕ) (given rest : List Packet) (done : List Tag) (dead : ℕ → Bool) → CameTo e limit delta old new bytes given rest done dead → dead (length given) ≡ true
+stopped_dies e s limit delta old new bytes given rest done dead c = (subst (λ (z : ReadEnd). CameTo z limit delta old new bytes given rest done dead) s c).dies
+
 -- how a run ends that made outputs, of which none failed
 came_well : (e : ReadEnd) (want : Bool) (text bytes : List ℕ) (max delta : ℕ) (old new : InputState) (given rest : List Packet) (done : List Tag) (dead : ℕ → Bool) → Cut text bytes new → (reading_of text).verdict ≡ None → length text < max
     → (Rose old.faults new.faults → ⊥) → CameTo e max delta old new bytes given rest done dead → (e ≡ read_end.Stop → want ≡ false → false ≡ true) → IsDoneOrWants (status_by e None want)
@@ -355,7 +359,7 @@ comes_well E A knows {S} state asked text old new shelves o some there good calm
     let c = cut_of asked.source text asked.max_bytes w.bytes old new there w.taken in
     subst IsDoneOrWants (sym (w.status_is ∙ ap (λ (f : Option ℕ). status_by w.reading f (any_want (states_of es))) none))
     (came_well w.reading (any_want (states_of es)) text w.bytes asked.max_bytes asked.delta_us old new w.given w.rest w.done w.dead c good.whole good.short calm w.came
-    (λ e u. ap is_some (sym none) ∙ w.stops e u))
+    (λ e u. ap is_some (sym none) ∙ w.stops (stopped_dies w.reading e asked.max_bytes asked.delta_us old new w.bytes w.given w.rest w.done w.dead w.came) u))
 
 no_ends : {S : Type 0} (state : S → ShelfState) (slaves : List Slave) (shelves : List ShelfState) (ends : List (SlaveEnd S)) → ends ≡ [] → EachEndsDuly (map (end_view state) ends) slaves shelves
 no_ends state slaves shelves [] e = tt

@@ -23,7 +23,7 @@ use Rattle.flv_demux.specs.State.{DemuxState, HasDealt, IsSure, IsShown, IsReada
 use Rattle.flv_demux.proofs.Demuxing.{sure_all}
 use Rattle.flv_demux.specs.Deal.{packets_by}
 use Rattle.flv_demux.proofs.Probing.{probe_stays, probe_of-none}
-use Rattle.interleaver.specs.Interleave.{interleave}
+use Rattle.interleaver.specs.Interleave.{interleave, emitted}
 use Rattle.interleaver.specs.Queues.{Pending, goes}
 use Rattle.options.specs.declared.words.Plan.{Plan}
 use Rattle.options.specs.Slave.{Slave}
@@ -50,7 +50,7 @@ use Rattle.options.specs.declared.fault.WordFault.{WordFault}
 use Rattle.options.specs.declared.words.Source.{Source}
 use Rattle.options.specs.declared.words.Source.TheVariants.{Named, Generated}
 use Rattle.remux.specs.Asked.{Asked, asked_with, name_of, pictures_of, asked_of, clamped}
-use Rattle.remux.specs.Came.{CameTo, order_of}
+use Rattle.remux.specs.Came.{CameTo, IsOver, order_of}
 use Rattle.remux.specs.Carried.{Ready, Carried, Carries}
 use Rattle.remux.specs.Demuxed.{is_refused}
 use Rattle.remux.specs.Ending.{status_by, status_failed, status_of_read, status_unwanted}
@@ -245,17 +245,25 @@ stopped_out limit s b left old mid new v has K D t se ne =
       };
     }
 
+over_of : (s : Kinds) (x : List ℕ) (n delta : ℕ) (given rest : List Packet) (dead : ℕ → Bool) → s ≡ kinds (reading_of x).tags → n ≡ stream_count s → (rest ≡ []) ⊎ ((0 < length given) × (dead (length given) ≡ true)) →
+    (0 < length given → dead (length given) ≡ true → length (emitted n delta (packets_by s (reading_of x).tags)) < length given) → IsOver delta x given rest (reading_of x).tags dead
+over_of s x n delta given rest dead se ne last late = record {
+  all_tags = refl;
+  all_packets = last;
+  late = λ some dies. subst (λ (k : Kinds). length (emitted (stream_count k) delta (packets_by k (reading_of x).tags)) < length given) se (subst (λ (m : ℕ). length (emitted m delta (packets_by s (reading_of x).tags)) < length given) ne (late some dies));
+}
+
 pub outs : (e : ReadEnd) (limit : ℕ) (s : Kinds) (b : List ℕ) (left : ℕ) (old mid new : InputState) (v : Pending) (has : List ℕ → List Tag → Type 0) (K : List Packet → Type 0) (D : ℕ → Bool) →
     old.faults ≤ mid.faults → length b + left ≡ limit → ((more : List ℕ) → length more ≤ left → (mid.readable ≡ false → more ≡ []) → s ≡ kinds (reading_of (b ++ more)).tags) → v.streams ≡ stream_count s →
     Carries e s b left mid new v has K D → Out e limit v.delta s b left old mid new v.streams has K D
 outs read_end.Whole limit s b left old mid new v has K D le long se ne h =
-    all_out read_end.Whole limit v.delta s b left old mid new v.streams has K D h.0 (record { all_tags = refl; all_packets = h.0.out.last }, h.1, h.2, omega (arith, long, h.3, length-append b h.0.more))
+    all_out read_end.Whole limit v.delta s b left old mid new v.streams has K D h.0 (over_of s (b ++ h.0.more) v.streams v.delta h.0.out.given h.0.out.rest D (se h.0.more h.0.long h.0.only) ne h.0.out.last h.0.out.late, h.1, h.2, omega (arith, long, h.3, length-append b h.0.more))
 outs read_end.Cut limit s b left old mid new v has K D le long se ne h =
-    all_out read_end.Cut limit v.delta s b left old mid new v.streams has K D h.0 (record { all_tags = refl; all_packets = h.0.out.last }, h.1, h.2, omega (arith, long, h.3, length-append b h.0.more))
+    all_out read_end.Cut limit v.delta s b left old mid new v.streams has K D h.0 (over_of s (b ++ h.0.more) v.streams v.delta h.0.out.given h.0.out.rest D (se h.0.more h.0.long h.0.only) ne h.0.out.last h.0.out.late, h.1, h.2, omega (arith, long, h.3, length-append b h.0.more))
 outs read_end.Limit limit s b left old mid new v has K D le long se ne h =
-    all_out read_end.Limit limit v.delta s b left old mid new v.streams has K D h.0 (record { all_tags = refl; all_packets = h.0.out.last }, omega (arith, long, h.1, length-append b h.0.more))
+    all_out read_end.Limit limit v.delta s b left old mid new v.streams has K D h.0 (over_of s (b ++ h.0.more) v.streams v.delta h.0.out.given h.0.out.rest D (se h.0.more h.0.long h.0.only) ne h.0.out.last h.0.out.late, omega (arith, long, h.1, length-append b h.0.more))
 outs read_end.InputFault limit s b left old mid new v has K D le long se ne h =
-    all_out read_end.InputFault limit v.delta s b left old mid new v.streams has K D h.0 (record { all_tags = refl; all_packets = h.0.out.last }, rose_since old.faults mid.faults new.faults le h.1)
+    all_out read_end.InputFault limit v.delta s b left old mid new v.streams has K D h.0 (over_of s (b ++ h.0.more) v.streams v.delta h.0.out.given h.0.out.rest D (se h.0.more h.0.long h.0.only) ne h.0.out.last h.0.out.late, rose_since old.faults mid.faults new.faults le h.1)
 outs read_end.Stop limit s b left old mid new v has K D le long se ne h =
     stopped_out limit s b left old mid new v has K D h (se h.more h.long h.only) ne
 outs read_end.NoMemory limit s b left old mid new v has K D le long se ne h = record {
@@ -303,10 +311,6 @@ some_infos limit f start mid d infos w e =
 some_streams : (x : List ℕ) → 0 < stream_count (kinds (reading_of x).tags) → streams (reading_of x).tags ≡ [] → ⊥
 some_streams x some e = omega (arith, some, count_streams (reading_of x).tags, ap length e)
 
--- a reading that stopped early found an output dead
-stopped_dies : (e : ReadEnd) → e ≡ read_end.Stop → (limit delta : ℕ) (old new : InputState) (bytes : List ℕ) (given rest : List Packet) (done : List Tag) (dead : ℕ → Bool) → CameTo e limit delta old new bytes given rest done dead → dead (length given) ≡ true
-stopped_dies e s limit delta old new bytes given rest done dead c = (subst (λ (z : ReadEnd). CameTo z limit delta old new bytes given rest done dead) s c).dies
-
 -- the outputs were given these packets of the order of the text
 pub wrote : (E : OfAll) (A : OfEach) {S : Type 0} (state : S → ShelfState) (p : Planned) (name : List ℕ) (f : Found) (old start mid new : InputState) (ended : Bool) (known : Option Kinds) (has : List ℕ → List Tag → Type 0) (d : DemuxState) (e : ReadEnd) (v : Pending) (shelves : List S) (seats : List Seat) (K : List Packet → Type 0) (D : ℕ → Bool) (o : Outcome S) →
     Opened name old start → start.faults ≤ mid.faults → (w : FoundIn f (clamped p.max_bytes) start mid ended known has) → (mid.readable ≡ false → new ≡ mid) → v.streams ≡ stream_count w.streams → v.delta ≡ p.delta_us →
@@ -353,7 +357,7 @@ wrote E A state p name f old start mid new ended known has d e v shelves seats K
       tags = tags_are ∙ tags_told r.fed r.done d r.dealt;
       discards = λ n. discards_are ∙ discards_told r.fed r.done d r.dealt x (r.whole n);
       status_is = status_is;
-      stops = λ es nw. dies (length r.given) (stopped_dies e es most_bytes v.delta old new x r.given r.rest r.done D r.came) nw;
+      stops = dies (length r.given);
     }
 
 -- the stream of a number is of the kind that it has in an FLV text

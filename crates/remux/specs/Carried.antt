@@ -7,7 +7,7 @@ use Rattle.flv_tags.specs.Tags.{reading_of}
 use Rattle.flv_demux.specs.declared.deal.Kinds.{Kinds}
 use Rattle.flv_demux.specs.Probe.{stream_count}
 use Rattle.flv_demux.specs.Deal.{packets_by}
-use Rattle.interleaver.specs.Interleave.{interleave}
+use Rattle.interleaver.specs.Interleave.{interleave, emitted}
 use Rattle.interleaver.specs.Queues.{Pending, goes}
 use Rattle.rmx_edge.specs.Count.{Rose}
 use Rattle.rmx_edge.specs.Inputs.{InputState}
@@ -34,7 +34,8 @@ pub record Ready (s : Kinds) (b : List ℕ) (first : Option Packet) (reached : R
   pub kept : keeps []
   pub accepts : (p : Packet) → Fit s p → takes p
 
--- what the outputs were given of all packets of these bytes: all of them, or all up to the first behind which they are dead
+-- what the outputs were given of all packets of these bytes: all of them, or all up to the first behind which they are dead,
+-- which the end let out
 pub record GivenOut (s : Kinds) (b : List ℕ) (n delta : ℕ) (has : List ℕ → List Tag → Type 0) (keeps : List Packet → Type 0) (dead : ℕ → Bool) : Type 0 where
   pub dealt : has b (reading_of b).tags
   pub given : List Packet
@@ -43,6 +44,7 @@ pub record GivenOut (s : Kinds) (b : List ℕ) (n delta : ℕ) (has : List ℕ �
   pub order : interleave n delta (packets_by s (reading_of b).tags) ≡ given ++ rest
   pub alive : (u : ℕ) → 0 < u → u < length given → dead u ≡ false
   pub last : (rest ≡ []) ⊎ ((0 < length given) × (dead (length given) ≡ true))
+  pub late : 0 < length given → dead (length given) ≡ true → length (emitted n delta (packets_by s (reading_of b).tags)) < length given
 
 -- the reading went on behind b, and all that it took was dealt with
 pub record Carried (s : Kinds) (b : List ℕ) (left : ℕ) (old new : InputState) (n delta : ℕ) (has : List ℕ → List Tag → Type 0) (keeps : List Packet → Type 0) (dead : ℕ → Bool) : Type 0 where

@@ -167,7 +167,8 @@ pub record IsWrittenBy (Ends : OfAll) (Kept : OfEach) {S : Type 0} (state : S �
   pub discards : (reading ≡ read_end.NoMemory → ⊥) → o.discards ≡ (desk_of (kinds (reading_of bytes).tags) done).discards
   -- the status
   pub status_is : o.status ≡ status_by reading (failed_slave (aborts seats) (states_of (map (end_view state) o.ends.items))) (any_want (states_of (map (end_view state) o.ends.items)))
-  pub stops : reading ≡ read_end.Stop → any_want (states_of (map (end_view state) o.ends.items)) ≡ false
+  -- where one was known to be dead, one failed
+  pub stops : dead (length given) ≡ true → any_want (states_of (map (end_view state) o.ends.items)) ≡ false
       → is_some (failed_slave (aborts seats) (states_of (map (end_view state) o.ends.items))) ≡ true
 
 -- what is asked comes to this
