@@ -1,6 +1,6 @@
 -- What whole files leave on a shelf.
 use Rattle.std.proofs.Common.{◌≡◌, ℕ, Bool, true, false, List, [], ◌∷◌, ◌++◌, length, ap, ◌∙◌, sym, refl, append_assoc, append-nil}
-use Rattle.std.specs.Prelude.{flat_map, ◌==◌, if◌then◌else◌}
+use Rattle.std.specs.Prelude.{◌==◌, if◌then◌else◌}
 use Rattle.std.proofs.lemmas.Bool.{eqb-true}
 use Rattle.std.proofs.lemmas.List.{nil_from_length}
 use Rattle.rmx_edge.specs.Shelf.{ShelfTake, ShelfCall, Write, Close, change_last, with_piece, as_closed, new_take, after}
@@ -41,11 +41,6 @@ pub writes-append : (xs ys : List (List ℕ)) → writes (xs ++ ys) ≡ writes x
 unfolding writes
 writes-append [] ys = refl
 writes-append (x ∷ xs) ys = ap (λ (l : List ShelfCall). write_of x ++ l) (writes-append xs ys) ∙ sym (append_assoc (write_of x) (writes xs) (writes ys))
-
-pub writes-flat_map : {A : Type 0} (pieces : A → List (List ℕ)) (xs : List A) → flat_map (λ (x : A). writes (pieces x)) xs ≡ writes (flat_map pieces xs)
-unfolding writes
-writes-flat_map pieces [] = refl
-writes-flat_map {A} pieces (x ∷ xs) = ap (λ (l : List ShelfCall). writes (pieces x) ++ l) (writes-flat_map pieces xs) ∙ sym (writes-append (pieces x) (flat_map pieces xs))
 
 -- the pieces of items, where an item's may go by those before it
 abbrev pub pieces_over : {A : Type 0} → (List A → A → List (List ℕ)) → List A → List A → List (List ℕ)

@@ -1,4 +1,3 @@
-pub mod ChainLemmas
 pub mod FileLemmas
 pub mod FileRuns
 pub mod FileTakes

@@ -18,10 +18,6 @@ pub accepted_by-append : (xs ys : List ShelfCall) (a : Accepted) → accepted_by
 accepted_by-append [] ys a = refl
 accepted_by-append (x ∷ xs) ys a = accepted_by-append xs ys (with_call (size_of x) a)
 
-pub bytes_of-append : (xs ys : List ShelfCall) → bytes_of (xs ++ ys) ≡ bytes_of xs + bytes_of ys
-bytes_of-append [] ys = omega arith
-bytes_of-append (x ∷ xs) ys = omega (arith, bytes_of-append xs ys)
-
 pub rose_later : (a b c : ℕ) → a ≤ b → Rose b c → Rose a c
 rose_later a b c h (inl lt) = inl (omega arith)
 rose_later a b c h (inr e) = inr e

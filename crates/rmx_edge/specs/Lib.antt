@@ -1,4 +1,3 @@
-pub mod Chain
 pub mod Count
 pub mod Counted
 pub mod FailAt
@@ -16,4 +15,3 @@ pub mod Pieces
 pub mod Run
 pub mod Shelf
 pub mod Sink
-pub mod Stop

@@ -1,5 +1,5 @@
 // A shelf that counts the bytes that it accepts.
-ghost use Rattle.std.specs.Prelude.{◌≡◌, ◌≤◌, ◌<◌, ◌^◌};
+ghost use Rattle.std.specs.Prelude.{◌≡◌, ◌<◌, ◌^◌};
 
 use crate::{Shelf, ShelfFault};
 

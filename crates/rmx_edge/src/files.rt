@@ -2,6 +2,7 @@
 ghost use Rattle.std.specs.Prelude.{◌≡◌, ◌≤◌, ◌<◌, ◌++◌, ◌↔◌, [], Some, None, drop, take, length, min, IfSome, IfNone};
 ghost use Rattle.rmx_edge.specs.Files.{file_of, bytes_at};
 
+/// A file in memory: its name and its bytes.
 pub type File = (String, Vec<u8>);
 
 /// The bytes of the file at this place, or none.

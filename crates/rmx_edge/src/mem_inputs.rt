@@ -23,8 +23,7 @@ pub struct MemInputs {
 }
 
 impl MemInputs {
-    ghost use Rattle.std.specs.Prelude.{true, false, Some, [], ◌==◌, ◌&&◌, is_some, IfSome};
-    ghost use Rattle.std.specs.List.{list_any};
+    ghost use Rattle.std.specs.Prelude.{true, false, Some, [], ◌==◌, ◌&&◌, is_some};
     ghost use Rattle.rmx_edge.specs.Files.{file_of};
     ghost use Rattle.rmx_edge.specs.MemInputs.{state_of, left_of, listed, calls_of, most_of, fails_next};
 

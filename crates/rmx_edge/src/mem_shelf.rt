@@ -23,7 +23,7 @@ pub struct MemShelf {
 }
 
 impl MemShelf {
-    ghost use Rattle.std.specs.Prelude.{[], Some, None, false, length, IfSome, ◌==◌};
+    ghost use Rattle.std.specs.Prelude.{[], Some, None, false, length, ◌==◌};
     ghost use Rattle.std.specs.List.{list_any};
     ghost use Rattle.rmx_edge.specs.Shelf.{take_at};
     ghost use Rattle.rmx_edge.specs.MemShelf.{state_of, shown, fails_next, keep_next, listed, is_dead};

@@ -5,6 +5,7 @@ ghost use Rattle.rmx_edge.specs.MemTake.{takes_of};
 
 use std::alloc::{AllocError, Global};
 
+/// A file that was begun on a shelf in memory: its name, its bytes so far, and whether it was closed.
 #[derive(Drop)]
 pub struct MemTake {
     pub name: String,
@@ -12,6 +13,7 @@ pub struct MemTake {
     pub closed: bool,
 }
 
+/// Appends bytes to the last take. Where memory is refused nothing changes.
 pub fn append_last(takes: &mut Vec<MemTake>, bytes: &[u8]) -> Result<(), AllocError>
     requires { 0 < vec_len takes.old }
     ensures ok { OnOk result (takes_of takes.new.items ≡ change_last (with_piece bytes.now) (takes_of takes.old.items)) }
@@ -25,6 +27,7 @@ pub fn append_last(takes: &mut Vec<MemTake>, bytes: &[u8]) -> Result<(), AllocEr
     }
 }
 
+/// Closes the last take.
 pub fn close_last(takes: &mut Vec<MemTake>)
     requires { 0 < vec_len takes.old }
     ensures closed { takes_of takes.new.items ≡ change_last as_closed (takes_of takes.old.items) }
@@ -34,6 +37,7 @@ pub fn close_last(takes: &mut Vec<MemTake>)
     takes[last].closed = true;
 }
 
+/// Adds an empty take of this name. Where memory is refused nothing changes.
 pub fn add_take(alloc: Global, takes: &mut Vec<MemTake>, name: &str) -> Result<(), AllocError>
     ensures ok { OnOk result (takes_of takes.new.items ≡ takes_of takes.old.items ++ new_take name.now ∷ []) }
     ensures some { OnOk result (0 < vec_len takes.new) }
@@ -48,6 +52,7 @@ pub fn add_take(alloc: Global, takes: &mut Vec<MemTake>, name: &str) -> Result<(
     Ok(())
 }
 
+/// The bytes of the take at this place, counted from 0.
 pub fn bytes_of(takes: &[MemTake], at: usize) -> &[u8]
     requires { at < length (takes_of takes.now) }
     ensures { result.now ≡ (take_at (takes_of takes.now) at).bytes }
@@ -55,6 +60,7 @@ pub fn bytes_of(takes: &[MemTake], at: usize) -> &[u8]
     takes[at].bytes.as_slice()
 }
 
+/// The name of the take at this place, counted from 0.
 pub fn name_of(takes: &[MemTake], at: usize) -> &str
     requires { at < length (takes_of takes.now) }
     ensures { result.now ≡ (take_at (takes_of takes.now) at).name }
@@ -62,6 +68,7 @@ pub fn name_of(takes: &[MemTake], at: usize) -> &str
     takes[at].name.as_str()
 }
 
+/// Whether the take at this place, counted from 0, was closed.
 pub fn is_closed(takes: &[MemTake], at: usize) -> bool
     requires { at < length (takes_of takes.now) }
     ensures { result ≡ (take_at (takes_of takes.now) at).closed }
