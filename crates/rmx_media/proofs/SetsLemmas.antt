@@ -1,9 +1,9 @@
 -- Parameter sets, one after another.
-use Rattle.std.proofs.Common.{◌≡◌, ℕ, suc, ◌+◌, ◌≤◌, Bool, true, false, List, [], ◌∷◌, length, take, drop, refl, arith, Option, None, Some}
+use Rattle.std.proofs.Common.{◌≡◌, ℕ, suc, ◌+◌, ◌≤◌, Bool, true, false, List, ◌∷◌, length, take, drop, refl, arith, Option, None, Some}
 use Rattle.std.specs.Prelude.{nat_lt, is_some, slice_index, if◌then◌else◌}
 use Rattle.std.proofs.lemmas.Bool.Decides.{nat_tests}
 use Rattle.rmx_media.specs.Bits.{number_of}
-use Rattle.rmx_media.specs.Avc.{Run, run_of, with_set, with_sets, left_by, sets_left, some_sets, sets_alone}
+use Rattle.rmx_media.specs.Avc.{Run, run_of, with_set, with_sets, left_by, sets_left, some_sets}
 
 -- a set that is there
 pub record First (last : Bool) (count : ℕ) (bytes : List ℕ) : Type 0 where
@@ -48,24 +48,3 @@ first last count bytes h =
     let p : Passed last (nat_lt (length bytes) (2 + number_of (take 2 bytes))) (take (number_of (take 2 bytes)) (drop 2 bytes))
     (run_of count (drop (2 + number_of (take 2 bytes)) bytes)) = passed last _ _ _ h in
     record { whole = not_short (length bytes) (2 + number_of (take 2 bytes)) p.test; sets = p.front.sets; more = p.front.more }
-
--- where no sequence parameter set is left, a byte counts the picture parameter sets
-pub record Turned (bytes : List ℕ) : Type 0 where
-  pub long : 1 ≤ length bytes
-  pub sets : some_sets (sets_left true (slice_index bytes 0) (drop 1 bytes)) ≡ some_sets (sets_left false 0 bytes)
-  pub more : is_some (sets_left true (slice_index bytes 0) (drop 1 bytes)) ≡ true
-
-record TurnedBy (short : Bool) (run : Option Run) : Type 0 where
-  test : short ≡ false
-  sets : some_sets (sets_alone run) ≡ some_sets (if short then None else with_sets [] run)
-  more : is_some (sets_alone run) ≡ true
-
-turned_by : (short : Bool) (run : Option Run) → is_some (if short then None else with_sets [] run) ≡ true → TurnedBy short run
-turned_by true run h = cc
-turned_by false None h = cc
-turned_by false (Some run) h = record { test = refl; sets = refl; more = refl }
-
-pub turned : (bytes : List ℕ) → is_some (sets_left false 0 bytes) ≡ true → Turned bytes
-turned bytes h =
-    let t : TurnedBy (nat_lt (length bytes) 1) (run_of (slice_index bytes 0) (drop 1 bytes)) = turned_by _ _ h in
-    record { long = not_short (length bytes) 1 t.test; sets = t.sets; more = t.more }

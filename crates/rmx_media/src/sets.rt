@@ -17,7 +17,7 @@ pub struct Sets<'a> {
 
 impl<'a> Sets<'a> {
     ghost use Rattle.rmx_media.specs.Sets.{left_of};
-    ghost use Rattle.rmx_media.specs.Avc.{some_sets, sets_left, sets_after, run_of};
+    ghost use Rattle.rmx_media.specs.Avc.{some_sets, sets_left};
     ghost use Rattle.std.specs.Prelude.{false};
 
     // The sets of which so many sequence parameter sets stand in front, with all that follows them.

@@ -1,5 +1,5 @@
 // Streams and their configurations.
-ghost use Rattle.std.specs.Prelude.{◌≡◌, ◌≤◌, ◌<◌, IfOk, length};
+ghost use Rattle.std.specs.Prelude.{◌≡◌, IfOk};
 ghost use Rattle.rmx_media.specs.Streams.{IsEqual};
 
 use crate::{Config, Items, NoMemory};

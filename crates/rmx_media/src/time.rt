@@ -1,9 +1,9 @@
 // Times.
-ghost use Rattle.std.specs.Prelude.{◌≡◌, ◌≢◌, ℕ, ℤ, ◌+◌, ◌*◌, ◌/◌, ◌%◌, ◌^◌, decimal, ◌<◌, ◌≤◌, ◌∷◌, ◌++◌, [], pos, negsuc, ◌*ℤ◌, ◌<ℤ◌, IfSome, IfNone, FitsSigned, unsigned_abs, int_lt, if◌then◌else◌};
+ghost use Rattle.std.specs.Prelude.{◌≡◌, ℤ, ◌+◌, ◌*◌, ◌/◌, ◌%◌, ◌^◌, decimal, ◌<◌, ◌≤◌, ◌∷◌, ◌++◌, [], pos, ◌*ℤ◌, IfSome, IfNone, FitsSigned, unsigned_abs, if◌then◌else◌};
 ghost use Rattle.std.specs.Option.{SomeIff};
 ghost use Rattle.std.specs.Int.{w64};
 ghost use Rattle.arrayvec.specs.ArrayString.{array_string_len};
-ghost use Rattle.rmx_media.specs.Time.{order_of, IsNearest, with_sign, six_digits, seconds_of, seconds_text as text_of};
+ghost use Rattle.rmx_media.specs.Time.{order_of, IsNearest, with_sign, six_digits, seconds_text as text_of};
 
 use arrayvec::ArrayString;
 use itoa::Buffer;
