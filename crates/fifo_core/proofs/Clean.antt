@@ -18,9 +18,6 @@ use Rattle.fifo_core.specs.Follows.{Comes, Turned, Acted, FirstTry, Answered, Ru
 use Rattle.fifo_core.specs.Laws.{AnswersAs, all_come, all_written, IsWhole}
 use Rattle.fifo_core.proofs.Before.{first_before, made_before, runs_before, started}
 
-outside : ℕ → ℕ → Answer
-outside s i = answer.Done
-
 abbrev pub Clean : History → Type 0
 Clean h = AnswersAs (λ _ _. answer.Done) answer.Done h
 

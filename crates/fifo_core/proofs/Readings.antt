@@ -13,9 +13,6 @@ use Rattle.fifo_core.specs.History.{Begun, Tried, Fated, Want, History, mode_of,
 use Rattle.fifo_core.specs.Kept.{last_is, needs_by, mode_by, tries_by}
 use Rattle.fifo_core.specs.State.{Rises, last_written, Kept, Reads, action_by}
 
-false_or : (a b : Bool) → a ≡ false → b ≡ false → (a || b) ≡ false
-false_or a b p q = rw (p, q)
-
 -- nothing is written at or past the next index
 pub not_written : (h : History) (n j s : ℕ) → Rises h n → n ≤ j → is_written h j s ≡ false
 not_written [] n j s r le = refl
@@ -158,26 +155,6 @@ faulted {o = o} {h = h} {k = k} i facts f tries m dts r e is_m is_dts same =
       written = r.written ∙ sym (same _);
       rises = r.rises;
       in_hand = refl;
-    }
-
--- a fault after which the packet stays in hand
-pub retried : {o : FifoOptions} {h : History} {k : Kept} (i : ℕ) (facts : PacketFacts) (tries : ℕ) (m : Mode) (dts : ℤ)
-    → Reads o h (Some (i, facts)) k → tries ≡ tries_by k.mode k.attempts → m ≡ mode_by k.options tries k.notes → dts ≡ facts.dts
-    → Reads o (Tried (trying o h) i facts answer.Fault ∷ h) (Some (i, facts))
-    (record k { mode = m; attempts = tries; since = Some dts; notes = k.notes + 1; session = k.session + 1 })
-retried {o = o} {h = h} {k = k} i facts tries m dts r e is_m is_dts =
-    let now = tries_now tries r e in
-    record {
-      options = r.options;
-      mode = is_m ∙ rw (r.options, now, r.notes) (noted_mode o (streak h) (notes h));
-      attempts = omega (arith, now);
-      since = ap Some is_dts;
-      session = rw (closed o (streak h) (notes h)) (ap (λ n. n + 1) r.session);
-      notes = ap (λ n. n + 1) r.notes;
-      wanted = r.wanted;
-      written = r.written;
-      rises = r.rises;
-      in_hand = r.in_hand;
     }
 
 -- the packet in hand was written

@@ -1,5 +1,5 @@
 // The machine keeps what the next decision needs, in place of the history.
-ghost use Rattle.std.specs.Prelude.{◌≡◌, ℕ, ◌+◌, ◌*◌, ◌^◌, ◌<◌, ◌≤◌, ◌&&◌, not, ◌==◌, [], ◌∷◌, Some, None, Option, IsSome, true, false, ◌||◌};
+ghost use Rattle.std.specs.Prelude.{◌≡◌, ℕ, ◌+◌, ◌*◌, ◌^◌, ◌<◌, ◌≤◌, ◌&&◌, ◌==◌, [], ◌∷◌, Some, None, Option, IsSome, true, false, ◌||◌};
 ghost use Rattle.fifo_core.specs.History.{mode_is_live, mode_is_dead, is_below};
 ghost use Rattle.fifo_core.specs.Kept.{faults_ahead, sessions_ahead, needs_by, mode_by, tries_by};
 
@@ -25,7 +25,7 @@ pub struct FifoState {
 }
 
 impl FifoState {
-    ghost use Rattle.fifo_core.specs.History.{History, Begun, Tried, Fated, Want, action_of, after_of, flush_of, is_live, end_of, mode_of, answered_want};
+    ghost use Rattle.fifo_core.specs.History.{History, Begun, Fated, Want, action_of, after_of, flush_of, is_live, end_of, mode_of, answered_want};
     ghost use Rattle.fifo_core.specs.State.{Shows, hand_of, next_of, session_in, wanted_in, session_shown, after_action, hand_after_action, after_answer, hand_after_answer, hand_left};
     ghost use Rattle.fifo_core.specs.declared.types.FifoOptions.{FifoOptions};
     ghost use Rattle.fifo_core.specs.declared.types.PacketFacts.{PacketFacts};
