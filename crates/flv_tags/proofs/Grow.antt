@@ -12,9 +12,6 @@ use Rattle.flv_tags.specs.Tags.{Reading, reading_by, reading_of_tags, reading_of
 use Rattle.flv_tags.proofs.Walk.{reading_of_tags-step, front_shorter}
 use Rattle.flv_tags.proofs.More.{front_of_more, window}
 
-tags_by : Front → List ℕ → List Tag
-tags_by f text = (reading_by f reading_of_tags).tags
-
 by_front : (n : ℕ) (text more : List ℕ) (f : Front) → length text < suc n → front_of text ≡ f →
     ((r : List ℕ) → length r < n → (rest : List Tag) × ((reading_of_tags (r ++ more)).tags ≡ (reading_of_tags r).tags ++ rest)) →
     (rest : List Tag) × ((reading_of_tags (text ++ more)).tags ≡ (reading_by f reading_of_tags).tags ++ rest)

@@ -11,7 +11,7 @@ use Rattle.flv_tags.specs.declared.tag.TagStep.TheVariants.{Tag as Answered, Nee
 use Rattle.flv_tags.specs.Front.{Front, Nothing, Part, One, front_of}
 use Rattle.flv_tags.specs.Tags.{Reading, only, with_tag, with_tags, reading_by, reading_of, reading_of_tags, reading_past, is_flv, offset_of}
 use Rattle.flv_tags.specs.Reader.{ReaderState, reading_with, reading_left, IsSame, ReadsTag, Faults, IsShort, Steps, HasRead, HasNoFault, Answers}
-use Rattle.flv_tags.proofs.HeadLemmas.{reading_past_more, past_dropped, past_short, past_long, reading_not_flv, reading_not_flv_more, reading_bad_offset, reading_bad_offset_more, short_is_no_flv}
+use Rattle.flv_tags.proofs.HeadLemmas.{reading_past_more, past_dropped, past_long, reading_not_flv, reading_not_flv_more, reading_bad_offset, reading_bad_offset_more, short_is_no_flv}
 use Rattle.flv_tags.proofs.Walk.{reading_of_tags-step}
 use Rattle.flv_tags.proofs.More.{front_of_more}
 
@@ -29,9 +29,6 @@ reading_at_size s more h k f = reading_at_offset s more h f ∙ ap (λ (n : ℕ)
 
 pub reading_at_fault : (s : ReaderState) (fault : TagFault) (more : List ℕ) → s.fault ≡ Some fault → reading_with s more ≡ only (Some fault)
 reading_at_fault s fault more f = rw f refl
-
-pub same : (s : ReaderState) → IsSame s s
-same s = record { reading = λ more. refl; ended = refl; fault = refl; head = λ h. (h, refl) }
 
 -- passing the head changes nothing of what is left
 pub head_passed : (s : ReaderState) (offset : ℕ) → s.past_head ≡ false → s.fault ≡ None → offset ≡ offset_of s.text → is_flv s.text ≡ true → 9 ≤ offset → IsSame s (record s { past_head = true; skip = offset })
@@ -61,9 +58,6 @@ skipped s k h f n l = record {
   fault = refl;
   head = λ p. differ p h;
 }
-
-pub left_short : (s : ReaderState) → s.past_head ≡ true → s.fault ≡ None → length s.text < s.skip → reading_left s ≡ only (Some CutTag)
-left_short s h f l = reading_at_offset s [] h f ∙ ap (reading_past s.skip) (append-nil s.text) ∙ past_short s.skip s.text l
 
 left_front : (s : ReaderState) (front : Front) → s.past_head ≡ true → s.skip ≡ 0 → s.fault ≡ None → front_of s.text ≡ front → reading_left s ≡ reading_by front reading_of_tags
 left_front s front h k f e =
@@ -108,21 +102,9 @@ bad_offset s h f e l = record {
   stays = refl;
 }
 
-pub short_head : (s : ReaderState) → s.past_head ≡ false → s.fault ≡ None → s.ended ≡ false → length s.text < 9 → Steps (Ok NeedMore) s s
-short_head s h f e l = (e, same s, ap (λ (r : Reading). r.tags) (reading_at_head s [] h f ∙ ap reading_of (append-nil s.text) ∙ reading_not_flv s.text (short_is_no_flv s.text l)), inl record { fault = f; head = h; length = l })
-
 -- the ends of what is left
 pub cut : (s : ReaderState) → reading_left s ≡ only (Some CutTag) → s.ended ≡ true → Steps (Err CutTag) s (record s { fault = Some CutTag })
 cut s e h = (record { now = e; later = λ d. differ d h; ended = refl; stays = refl }, h)
-
-pub waits_in_part : (s : ReaderState) → reading_left s ≡ only (Some CutTag) → s.ended ≡ false → Steps (Ok NeedMore) s s
-waits_in_part s e h = (h, same s, ap (λ (r : Reading). r.tags) e, inr (inr (ap (λ (r : Reading). r.verdict) e)))
-
-pub waits_at_end : (s : ReaderState) → reading_left s ≡ only None → s.ended ≡ false → Steps (Ok NeedMore) s s
-waits_at_end s e h = (h, same s, ap (λ (r : Reading). r.tags) e, inr (inl (ap (λ (r : Reading). r.verdict) e)))
-
-pub whole : (s : ReaderState) → reading_left s ≡ only None → s.ended ≡ true → Steps (Ok End) s s
-whole s e h = (h, same s, e)
 
 join_same : (a b c : ReaderState) → IsSame a b → IsSame b c → IsSame a c
 join_same a b c s t = record {
@@ -259,13 +241,6 @@ answers (Err CutTag) fed tags old new f h r = (faulted fed tags CutTag old new r
   where
     a : CutTag ≡ NotFlv → ⊥
     a e = cc
-
--- a fault is answered again
-pub answers_again : (fault : TagFault) (fed : List ℕ) (tags : List Tag) (s : ReaderState) → s.fault ≡ Some fault → HasRead fed tags s → Answers (Err fault) fed tags s.ended s
-answers_again NotFlv fed tags s f r = (r, no_more fed tags s (Some NotFlv) r (reading_at_fault s NotFlv [] f), r.told f)
-answers_again BadOffset fed tags s f r = (r, no_more fed tags s (Some BadOffset) r (reading_at_fault s BadOffset [] f))
-answers_again CutTag fed tags s f r = (r, r.cut f, no_more fed tags s (Some CutTag) r (reading_at_fault s CutTag [] f))
-answers_again NoMemory fed tags s f r = r
 
 -- more was fed
 pub more_fed : (fed : List ℕ) (tags : List Tag) (s : ReaderState) (piece : List ℕ) → s.ended ≡ false → s.fault ≡ None → HasRead fed tags s → HasRead (fed ++ piece) tags (record s { text = s.text ++ piece })

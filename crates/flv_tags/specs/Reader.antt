@@ -19,9 +19,6 @@ pub record ReaderState : Type 0 where
   -- the fault that every call answers
   pub fault : Option TagFault
 
-abbrev pub new_reader : ReaderState
-new_reader = record { text = []; past_head = false; skip = 0; ended = false; fault = None }
-
 -- the reading of what is left, where this comes next and then the end
 abbrev pub reading_with : ReaderState → List ℕ → Reading
 reading_with s more = elim s.fault [

@@ -1,5 +1,4 @@
 // The head of a file.
-ghost use Rattle.std.specs.Prelude.{◌≤◌, length};
 ghost use Rattle.flv_tags.specs.Head.{IsHeadStep};
 
 use crate::front::number3;

@@ -1,5 +1,5 @@
 // A reader of tags.
-ghost use Rattle.std.specs.Prelude.{◌≡◌, ◌++◌, ℕ, List, IfOk, ◌≤◌, ◌<◌, ◌+◌, [], ◌∷◌, ◌++◌, true, false, Some, Err, None, ◌⊎◌, length, take, drop, OnOk, OnErr, IfOk};
+ghost use Rattle.std.specs.Prelude.{◌≡◌, ◌++◌, ℕ, List, IfOk, ◌≤◌, ◌<◌, [], ◌++◌, true, false, Some, Err, None, ◌⊎◌, OnOk, OnErr, IfOk};
 ghost use Rattle.flv_tags.specs.declared.tag.Tag.{Tag};
 ghost use Rattle.flv_tags.specs.declared.tag.TagFault.{TagFault};
 ghost use Rattle.flv_tags.specs.Reader.{Steps, Answers, HasRead, left_of, is_tag, HasSmallBody, reading_left};
@@ -45,6 +45,7 @@ pub struct TagReader {
 impl TagReader {
     ghost use Rattle.flv_tags.specs.TagReader.{state_of};
 
+    /// A reader that was fed nothing yet.
     pub fn new(alloc: Global) -> TagReader
         ensures ended { (state_of result).ended ≡ false }
         ensures fed { HasRead [] [] (state_of result) }
