@@ -1,15 +1,14 @@
 -- The calls of a packet end in a write.
-use Rattle.std.proofs.Common.{◌≡◌, ℕ, ◌+◌, Bool, true, false, List, [], ◌∷◌, ◌++◌, length, refl, sym, ap, ◌∙◌, subst}
+use Rattle.std.proofs.Common.{ℕ, ◌+◌, Bool, true, false, List, [], ◌∷◌, ◌++◌, length, refl, sym, subst}
 use Rattle.std.specs.Prelude.{◌==◌, if◌then◌else◌, ℤ}
 use Rattle.rmx_media.specs.declared.packet.Packet.{Packet}
 use Rattle.std.specs.Int.{w32, int_wrap}
 use Rattle.rmx_media.specs.Bits.{bytes_of}
 use Rattle.flv_tags.specs.Written.{tag_head_bytes}
-use Rattle.rmx_edge.specs.Shelf.{ShelfCall}
 use Rattle.rmx_edge.specs.Pieces.{writes, EndsInWrite}
 use Rattle.rmx_edge.proofs.PieceLemmas.{ends-append, writes-cons, writes_end_some}
 use Rattle.rmx_edge.proofs.FileTakes.{writes-append}
-use Rattle.flv_mux.specs.Flv.{tag_pieces, media_pieces, media_lead, tag_kind, config_pieces, packet_pieces, version_in, put_calls}
+use Rattle.flv_mux.specs.Flv.{tag_pieces, media_pieces, media_lead, tag_kind, config_pieces, version_in, put_calls}
 
 tag_ends : (kind : ℕ) (time : ℤ) (lead content : List ℕ) → EndsInWrite (writes (tag_pieces kind time lead content))
 tag_ends kind time lead content =

@@ -1,12 +1,11 @@
 -- The bytes of a file of FLV.
-use Rattle.std.proofs.Common.{◌≡◌, ℕ, List, [], ◌∷◌, ◌++◌, ap, ◌∙◌, sym, refl, append_assoc, true}
+use Rattle.std.proofs.Common.{◌≡◌, ℕ, List, [], ◌∷◌, ◌++◌, ap, ◌∙◌, sym, refl, append_assoc}
 use Rattle.rmx_media.specs.declared.packet.Packet.{Packet}
-use Rattle.rmx_media.specs.declared.streams.MuxStreams.{MuxStreams}
-use Rattle.rmx_edge.specs.Shelf.{ShelfTake, ShelfCall, Create, Close, after}
-use Rattle.rmx_edge.specs.Pieces.{writes, joined}
+use Rattle.rmx_edge.specs.Shelf.{ShelfCall, Create, Close, after}
+use Rattle.rmx_edge.specs.Pieces.{writes}
 use Rattle.rmx_edge.specs.FileCalls.{calls_over}
 use Rattle.rmx_edge.proofs.FileTakes.{files_are_takes, writes-append}
-use Rattle.flv_mux.specs.Flv.{head_pieces, packet_pieces, tail_pieces, put_calls, flv_calls}
+use Rattle.flv_mux.specs.Flv.{head_pieces, packet_pieces, tail_pieces, put_calls}
 use Rattle.flv_mux.specs.Laws.{pieces_after, file_pieces, FilesAreTags}
 
 writes_after : (before packets : List Packet) → calls_over put_calls before packets ≡ writes (pieces_after before packets)

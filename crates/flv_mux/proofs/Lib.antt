@@ -1,6 +1,5 @@
 pub mod Ends
 pub mod Files
-pub mod Fitting
 pub mod History
 pub mod Pair
 pub mod Samples

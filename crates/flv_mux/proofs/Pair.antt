@@ -1,5 +1,5 @@
 -- The configurations of two streams.
-use Rattle.std.proofs.Common.{◌≡◌, ℕ, ◌+◌, ◌<◌, ◌≤◌, arith, List, [], ◌∷◌, ◌++◌, length, get_or, zero, suc, ap, ◌∙◌, sym, append-nil}
+use Rattle.std.proofs.Common.{◌≡◌, ℕ, ◌<◌, ◌≤◌, arith, List, [], ◌∷◌, ◌++◌, length, get_or, ap, ◌∙◌, sym, append-nil}
 use Rattle.std.specs.Prelude.{flat_map}
 use Rattle.rmx_media.specs.declared.streams.MuxStream.{MuxStream}
 use Rattle.flv_mux.specs.Flv.{stream_pieces}

@@ -1,9 +1,8 @@
 -- Packets of tests fit.
-use Rattle.std.proofs.Common.{◌≡◌, ℕ, ◌≤◌, length, arith, ap, ◌∙◌, sym, subst, Some, Option}
+use Rattle.std.proofs.Common.{◌≡◌, ℕ, arith, ap, ◌∙◌, sym, Some}
 use Rattle.rmx_media.specs.declared.packet.Packet.{Packet}
 use Rattle.rmx_media.specs.declared.packet.Format.TheVariants.{Flv}
 use Rattle.rmx_media.specs.declared.streams.Kind.{Kind}
-use Rattle.rmx_media.specs.declared.streams.MuxStream.{MuxStream}
 use Rattle.rmx_media.specs.declared.streams.MuxStreams.{MuxStreams}
 use Rattle.rmx_media.specs.Streams.{kind_in}
 use Rattle.rmx_media.specs.Fits.{FitsLowered}

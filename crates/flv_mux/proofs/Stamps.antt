@@ -1,5 +1,5 @@
 -- Times as stamps, and the first piece of a tag.
-use Rattle.std.proofs.Common.{◌≡◌, ℕ, ◌+◌, ◌-◌, ◌≤◌, arith, List, [], ◌∷◌, ◌++◌, length, take, ap, ◌∙◌, sym, refl, length-append, ℤ, pos}
+use Rattle.std.proofs.Common.{◌≡◌, ℕ, ◌+◌, ◌-◌, arith, List, ◌++◌, length, take, ap, ◌∙◌, refl, length-append, ℤ, pos}
 use Rattle.std.specs.Prelude.{unsigned_abs}
 use Rattle.std.specs.Int.{w32, w64, int_wrap, int_rem_euclid}
 use Rattle.std.proofs.lemmas.Int.{to_z-of_z}
@@ -7,8 +7,6 @@ use Rattle.std.proofs.lemmas.List.{take-append-le, take_all}
 use Rattle.std.proofs.lemmas.Slice.{take-put_mid}
 use borrow.Rule.Slice.PartMut.{put_mid}
 use mir.Val.{SFits, of_z, to_z}
-use Rattle.flv_tags.specs.Written.{tag_head_bytes}
-use Rattle.flv_mux.specs.Flv.{tag_pieces}
 
 pub stamp_is : (t r s : ℤ) (u : ℕ) → SFits w64 t → SFits w64 r → SFits w32 s → r ≡ int_rem_euclid (to_z w64 (of_z w64 t)) (pos 4294967296) → u ≡ unsigned_abs (to_z w64 (of_z w64 r)) → s ≡ to_z w32 u → to_z w32 (of_z w32 s) ≡ int_wrap w32 t
 unfolding int_wrap

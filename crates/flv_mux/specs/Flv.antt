@@ -10,7 +10,7 @@ use Rattle.rmx_media.specs.declared.streams.Kind.TheVariants.{Video, Audio}
 use Rattle.rmx_media.specs.declared.streams.MuxStream.{MuxStream}
 use Rattle.rmx_media.specs.declared.streams.MuxStreams.{MuxStreams}
 use Rattle.rmx_media.specs.Bits.{bytes_of}
-use Rattle.rmx_media.specs.Config.{kind_of, raw_of}
+use Rattle.rmx_media.specs.Config.{kind_of}
 use Rattle.flv_tags.specs.Written.{tag_head_bytes, file_head_bytes}
 use Rattle.rmx_edge.specs.Shelf.{ShelfCall, Create, Close}
 use Rattle.rmx_edge.specs.Pieces.{writes}

@@ -1,5 +1,5 @@
 -- What a packet needs to be written as a tag.
-use Rattle.std.specs.Prelude.{ℕ, ◌≤◌, ◌<◌, ◌^◌, length, ℤ, pos, negsuc, ◌≤ℤ◌, ◌+ℤ◌}
+use Rattle.std.specs.Prelude.{◌≤◌, ◌<◌, ◌^◌, length, ℤ, pos, negsuc, ◌≤ℤ◌, ◌+ℤ◌}
 use Rattle.rmx_media.specs.declared.packet.Packet.{Packet}
 use Rattle.flv_mux.specs.Flv.{config_size}
 

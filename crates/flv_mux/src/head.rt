@@ -1,5 +1,5 @@
 // The head of a file.
-ghost use Rattle.std.specs.Prelude.{◌≡◌, ◌<◌, ◌^◌, true, pos, length, flat_map, OnOk};
+ghost use Rattle.std.specs.Prelude.{◌≡◌, ◌<◌, ◌^◌, true, length, flat_map, OnOk};
 ghost use Rattle.std.specs.List.{All};
 ghost use Rattle.std.specs.Option.{ForSome};
 ghost use Rattle.rmx_edge.specs.Pieces.{writes};
@@ -7,7 +7,7 @@ ghost use Rattle.rmx_edge.specs.Run.{Runs};
 ghost use Rattle.flv_mux.specs.Flv.{head_pieces, config_pieces, config_size, script_pieces, stream_pieces};
 
 use crate::kinds::flags;
-use crate::tags::write_tag;
+use crate::tags::{AUDIO_TAG, SCRIPT_TAG, VIDEO_TAG, write_tag};
 use bytes::Bytes;
 use flv_tags::file_head;
 use rmx_edge::{Shelf, ShelfFault, write_piece};
@@ -40,7 +40,7 @@ fn write_script<S: Shelf>(shelf: &mut S, script: &Option<Bytes>) -> Result<(), S
     ensures open { OnOk result ((S.state shelf.new).writing ≡ true) }
 {
     match script {
-        Some(script) => write_tag(shelf, 18, 0, &[], script.as_slice()),
+        Some(script) => write_tag(shelf, SCRIPT_TAG, 0, &[], script.as_slice()),
         None => Ok(()),
     }
 }
@@ -71,7 +71,13 @@ pub fn write_config<S: Shelf>(shelf: &mut S, time: i64, config: &Config) -> Resu
     ensures open { OnOk result ((S.state shelf.new).writing ≡ true) }
 {
     match config {
-        Config::Avc(config) => write_tag(shelf, 9, time, &[23, 0, 0, 0, 0], config.raw.as_slice()),
-        Config::Aac(config) => write_tag(shelf, 8, time, &[175, 0], config.raw.as_slice()),
+        Config::Avc(config) => write_tag(
+            shelf,
+            VIDEO_TAG,
+            time,
+            &[23, 0, 0, 0, 0],
+            config.raw.as_slice(),
+        ),
+        Config::Aac(config) => write_tag(shelf, AUDIO_TAG, time, &[175, 0], config.raw.as_slice()),
     }
 }

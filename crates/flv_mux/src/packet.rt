@@ -3,13 +3,13 @@ ghost use Rattle.std.specs.Prelude.{◌≡◌, ◌++◌, ◌∷◌, true, OnOk, 
 ghost use Rattle.rmx_edge.specs.Pieces.{writes};
 ghost use Rattle.rmx_edge.specs.Run.{Runs};
 ghost use Rattle.rmx_media.specs.Bits.{bytes_of};
-ghost use Rattle.flv_mux.specs.Flv.{config_pieces, media_pieces, media_lead, tail_pieces_at};
+ghost use Rattle.flv_mux.specs.Flv.{config_pieces, media_pieces, tail_pieces_at};
 ghost use Rattle.flv_mux.specs.Packets.{CanWrite, IsTimed};
 ghost use Rattle.flv_mux.specs.Timed.{packet_of};
 
 use crate::head::write_config;
 use crate::kinds::has_video;
-use crate::tags::{sequence_end_bytes, write_tag};
+use crate::tags::{AUDIO_TAG, VIDEO_TAG, sequence_end_bytes, write_tag};
 use crate::timed::Timed;
 use rmx_edge::{Shelf, ShelfFault, write_piece};
 use rmx_media::{Config, MuxStreams};
@@ -45,9 +45,9 @@ fn write_media<S: Shelf>(shelf: &mut S, p: &Timed) -> Result<(), ShelfFault>
     match &p.packet.config {
         Config::Avc(_) => {
             let lead = video_lead(p.packet.key, p.dts, p.pts);
-            write_tag(shelf, 9, p.dts, &lead, payload)
+            write_tag(shelf, VIDEO_TAG, p.dts, &lead, payload)
         }
-        Config::Aac(_) => write_tag(shelf, 8, p.dts, &[175, 1], payload),
+        Config::Aac(_) => write_tag(shelf, AUDIO_TAG, p.dts, &[175, 1], payload),
     }
 }
 

@@ -1,5 +1,5 @@
 // Tags of a file, each in three pieces.
-ghost use Rattle.std.specs.Prelude.{◌≡◌, ◌≤◌, ◌<◌, ◌+◌, ◌^◌, true, length, pos, OnOk};
+ghost use Rattle.std.specs.Prelude.{◌≡◌, ◌≤◌, ◌<◌, ◌+◌, ◌^◌, true, length, OnOk};
 ghost use Rattle.std.specs.Int.{w32, int_wrap};
 ghost use Rattle.rmx_media.specs.Bits.{bytes_of};
 ghost use Rattle.rmx_edge.specs.Pieces.{writes};
@@ -8,6 +8,15 @@ ghost use Rattle.flv_mux.specs.Flv.{tag_pieces, sequence_end};
 
 use flv_tags::tag_head;
 use rmx_edge::{Shelf, ShelfFault, write_three};
+
+/// The kind of a tag of audio (annex E.4.1).
+pub const AUDIO_TAG: u8 = 8;
+
+/// The kind of a tag of video.
+pub const VIDEO_TAG: u8 = 9;
+
+/// The kind of a tag of script data.
+pub const SCRIPT_TAG: u8 = 18;
 
 // The time modulo 2^32, as a stamp holds it.
 fn stamp_of(time: i64) -> i32
@@ -53,7 +62,7 @@ pub fn write_tag<S: Shelf>(
 pub fn sequence_end_bytes(time: i64) -> [u8; 20]
     ensures { result ≡ sequence_end time }
 {
-    let head = tag_head(9, 5, stamp_of(time));
+    let head = tag_head(VIDEO_TAG, 5, stamp_of(time));
     let mut bytes = [0; 20];
     bytes[..11].copy_from_slice(&head);
     bytes[11..].copy_from_slice(&[23, 2, 0, 0, 0, 0, 0, 0, 16]);

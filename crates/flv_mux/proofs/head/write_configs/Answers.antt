@@ -1,4 +1,4 @@
-use Rattle.std.proofs.Common.{◌≡◌, List, ℕ, ◌∷◌, ◌++◌, [], arith, subst, Err}
+use Rattle.std.proofs.Common.{List, ℕ, arith, subst, Err}
 use Rattle.rmx_edge.specs.Pieces.{writes}
 use Rattle.rmx_edge.specs.Run.{Runs}
 use Rattle.rmx_edge.proofs.Writing.{pieces_then, pieces_stopped}

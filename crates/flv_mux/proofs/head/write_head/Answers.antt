@@ -1,4 +1,4 @@
-use Rattle.std.proofs.Common.{◌≡◌, List, ℕ, ◌∷◌, ◌++◌, [], ap, ◌∙◌, sym, subst, Err}
+use Rattle.std.proofs.Common.{List, ℕ, ◌∷◌, ◌++◌, ap, ◌∙◌, subst, Err}
 use Rattle.std.specs.Prelude.{flat_map}
 use Rattle.rmx_media.specs.declared.streams.MuxStream.{MuxStream}
 use Rattle.flv_tags.specs.Written.{file_head_bytes}

@@ -1,4 +1,4 @@
-use Rattle.std.proofs.Common.{◌≡◌, sym, subst, Option, List, ℕ, Ok}
+use Rattle.std.proofs.Common.{sym, subst, Option, List, ℕ, Ok}
 use Rattle.rmx_edge.specs.Pieces.{writes}
 use Rattle.rmx_edge.specs.Run.{Runs}
 use Rattle.rmx_edge.proofs.Writing.{no_pieces}

@@ -1,4 +1,4 @@
-use Rattle.std.proofs.Common.{rules, ◌≡◌, ◌∷◌, [], List, ℕ, ℤ, ap, ◌∙◌, sym, subst}
+use Rattle.std.proofs.Common.{rules, ◌∷◌, [], List, ℕ, ℤ, ap, ◌∙◌, sym, subst}
 use Rattle.std.specs.Prelude.{unsigned_abs, ◌-ℤ◌, if◌then◌else◌}
 use Rattle.std.specs.Int.{w64}
 use Rattle.std.proofs.lemmas.Int.{to_z-of_z}

@@ -1,4 +1,4 @@
-use Rattle.std.proofs.Common.{◌≡◌, List, ℕ, [], ◌∷◌, ap, ◌∙◌, sym, subst, Ok, Bool, false}
+use Rattle.std.proofs.Common.{[], ◌∷◌, ap, ◌∙◌, sym, subst, Ok, Bool, false}
 use Rattle.std.specs.Prelude.{if◌then◌else◌}
 use Rattle.rmx_edge.specs.Pieces.{writes}
 use Rattle.rmx_edge.specs.Run.{Runs}

@@ -1,8 +1,8 @@
-use Rattle.std.proofs.Common.{◌≡◌, ℕ, refl, ℤ, ◌+◌, ◌-◌, List, [], ◌∷◌, ◌++◌, length, take, ap, ◌∙◌, sym, subst, rules}
+use Rattle.std.proofs.Common.{◌≡◌, ℕ, refl, ℤ, ◌+◌, ◌-◌, List, [], ◌∷◌, ◌++◌, length, take, ap, ◌∙◌, subst, rules}
 use Rattle.std.specs.Int.{w32, w64, int_wrap}
 use Rattle.std.proofs.lemmas.Int.{to_z-of_z}
 use borrow.Rule.Slice.PartMut.{put_mid}
-use mir.Val.{SFits, of_z, to_z}
+use mir.Val.{SFits}
 use Rattle.flv_tags.specs.Written.{tag_head_bytes}
 use Rattle.rmx_edge.specs.Pieces.{writes}
 use Rattle.rmx_edge.specs.Run.{Runs}

@@ -1,7 +1,5 @@
-use Rattle.std.proofs.Common.{rules, ◌≡◌, ◌++◌, ◌∷◌, [], List, sym, subst, w64, SFits}
+use Rattle.std.proofs.Common.{rules, ◌++◌, ◌∷◌, [], subst, w64, SFits}
 use Rattle.rmx_media.specs.declared.packet.Packet.{Packet}
-use Rattle.rmx_media.specs.declared.packet.Format.TheVariants.{Flv}
-use Rattle.rmx_media.specs.Fits.{FitsLowered}
 use Rattle.rmx_edge.specs.Run.{Runs}
 use Rattle.flv_mux.specs.Flv.{put_calls}
 use Rattle.flv_mux.specs.FlvMux.{Shows}
