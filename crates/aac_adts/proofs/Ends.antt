@@ -1,5 +1,5 @@
 -- The calls of a packet end in a write.
-use Rattle.std.proofs.Common.{◌≡◌, ℕ, ◌+◌, ◌≤◌, false, List, [], ◌∷◌, ◌++◌, length, arith, refl, sym, ap, ◌∙◌, subst}
+use Rattle.std.proofs.Common.{◌≡◌, ℕ, false, List, [], ◌∷◌, ◌++◌, length, arith, refl, sym, subst}
 use Rattle.std.specs.Prelude.{◌==◌}
 use Rattle.std.proofs.lemmas.Grind.{common_steps}
 use Rattle.rmx_media.specs.declared.aac.AacConfig.{AacConfig}
@@ -11,7 +11,7 @@ use Rattle.rmx_media.specs.declared.packet.Packet.{Packet}
 use Rattle.rmx_media.specs.declared.packet.Format.TheVariants.{Adts}
 use Rattle.rmx_media.specs.declared.streams.Kind.TheVariants.{Audio}
 use Rattle.rmx_media.specs.declared.streams.MuxStreams.{MuxStreams}
-use Rattle.rmx_media.specs.Adts.{adts_head, adts_frame, IsFrame}
+use Rattle.rmx_media.specs.Adts.{adts_head}
 use Rattle.rmx_media.specs.Config.{kind_of}
 use Rattle.rmx_media.specs.Fits.{IsPayload, FitsLowered}
 use Rattle.rmx_edge.specs.Pieces.{writes, EndsInWrite}

@@ -7,11 +7,10 @@ use Rattle.rmx_media.specs.declared.packet.Form.{Form}
 use Rattle.rmx_media.specs.declared.packet.Form.TheVariants as form
 use Rattle.rmx_media.specs.declared.packet.Packet.{Packet}
 use Rattle.rmx_media.specs.Adts.{adts_head}
-use Rattle.rmx_edge.specs.Shelf.{ShelfTake, ShelfCall, Create, Close, after}
-use Rattle.rmx_edge.specs.Pieces.{writes, joined}
-use Rattle.rmx_edge.specs.FileCalls.{calls_over}
+use Rattle.rmx_edge.specs.Shelf.{ShelfCall, Create, Close, after}
+use Rattle.rmx_edge.specs.Pieces.{joined}
 use Rattle.rmx_edge.proofs.FileTakes.{files_are_takes, pieces_over, writes-calls_over}
-use Rattle.aac_adts.specs.Adts.{adts_calls, pieces_by, pieces_of, put_calls, frame_by, frame_of}
+use Rattle.aac_adts.specs.Adts.{pieces_by, pieces_of, frame_by, frame_of}
 use Rattle.aac_adts.specs.Laws.{FilesAreFrames}
 
 joined_pieces : (config : Config) (f : Form) (payload : List ℕ) → joined (pieces_by config f payload) ≡ frame_by config f payload

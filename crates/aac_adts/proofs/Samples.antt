@@ -1,6 +1,5 @@
 -- Packets of tests fit.
-use Rattle.std.proofs.Common.{◌≡◌, ℕ, ◌≤◌, length, arith, ap, ◌∙◌, sym, subst, Some, pos}
-use Rattle.std.specs.Prelude.{◌≤ℤ◌, ◌+ℤ◌, negsuc, ℤ}
+use Rattle.std.proofs.Common.{◌≡◌, arith, ap, ◌∙◌, sym, Some}
 use Rattle.rmx_media.specs.declared.packet.Packet.{Packet}
 use Rattle.rmx_media.specs.declared.packet.Format.TheVariants.{Adts}
 use Rattle.rmx_media.specs.declared.streams.Kind.{Kind}

@@ -1,6 +1,5 @@
 // Files of frames by worked examples.
-ghost use Rattle.std.specs.Prelude.{◌≡◌, ◌≤◌, length, Some, pos, IfOk};
-ghost use Rattle.rmx_media.specs.declared.packet.Form.TheVariants as form;
+ghost use Rattle.std.specs.Prelude.{◌≡◌, Some, IfOk};
 ghost use Rattle.rmx_media.specs.declared.streams.Kind.TheVariants.{Audio};
 ghost use Rattle.rmx_media.specs.Config.{IsReadAac};
 ghost use Rattle.rmx_media.specs.Streams.{CanMux, kind_in};
