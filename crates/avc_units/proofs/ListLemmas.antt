@@ -7,12 +7,8 @@ use Rattle.rmx_media.specs.Bits.{bytes_of}
 use Rattle.rmx_media.specs.Units.{type_of, is_filled, annexb, native, sized, started, units_of, parts_of}
 use Rattle.avc_units.specs.Placed.{behind}
 use Rattle.std.specs.Cmp.Lexicographic.{pointwise}
-use Rattle.avc_units.proofs.UnitsLemmas.{is_short, is_long}
+use Rattle.avc_units.proofs.UnitsLemmas.{is_long}
 use Rattle.avc_units.specs.UnitList.{shown, has_type, before_idr, where_due, begins, AreShort}
-
-pub shown_append : (xs ys : List (Bor (List ℕ))) → shown (xs ++ ys) ≡ shown xs ++ shown ys
-shown_append [] ys = refl
-shown_append (x ∷ xs) ys = ap (λ (us : List (List ℕ)). x.now ∷ us) (shown_append xs ys)
 
 shown_filter_by : (keep : Bool) (x : Bor (List ℕ)) (xs : List (Bor (List ℕ)))
     → shown (cond keep (x ∷ xs) xs) ≡ cond keep (x.now ∷ shown xs) (shown xs)
@@ -55,16 +51,6 @@ shown_more xs list more i h e =
 
 pub shown_end : (xs : List (Bor (List ℕ))) (list : List (List ℕ)) (i : ℕ) → length xs ≤ i → list ++ shown (drop i xs) ≡ list
 shown_end xs list i h = ap (λ (us : List (List ℕ)). list ++ us) (drop_all xs i h) ∙ end list
-
--- a set that is empty is left out, another one is the first
-filter_by : (filled : Bool) (set : List ℕ) (sets : List (List ℕ)) → is_filled set ≡ filled → filter is_filled (set ∷ sets) ≡ cond filled (set ∷ filter is_filled sets) (filter is_filled sets)
-filter_by filled set sets e = ap (λ (b : Bool). cond b (set ∷ filter is_filled sets) (filter is_filled sets)) e
-
-pub filter_filled : (set : List ℕ) (all sets : List (List ℕ)) → all ≡ set ∷ sets → 0 < length set → filter is_filled all ≡ set ∷ filter is_filled sets
-filter_filled set all sets e h = ap (filter is_filled) e ∙ filter_by true set sets (is_short 0 (length set) h)
-
-pub filter_empty : (set : List ℕ) (all sets : List (List ℕ)) → all ≡ set ∷ sets → length set ≤ 0 → filter is_filled all ≡ filter is_filled sets
-filter_empty set all sets e h = ap (filter is_filled) e ∙ filter_by false set sets (is_long 0 (length set) h)
 
 -- the first of what a filter keeps
 first_by : (filled : Bool) (part unit : List ℕ) (parts units : List (List ℕ)) → is_filled part ≡ filled

@@ -6,9 +6,6 @@ use Rattle.std.proofs.lemmas.List.{length-drop}
 use Rattle.std.proofs.lemmas.Bool.Decides.{nat_tests}
 use Rattle.rmx_media.specs.Units.{is_filled, size_in, parts_by, parts_of, units_of, is_valid}
 
-not_short : (m n : ℕ) → nat_lt m n ≡ false → n ≤ m
-not_short m n h = grind (arith, nat_tests)
-
 pub is_short : (m n : ℕ) → m < n → nat_lt m n ≡ true
 is_short m n h = grind (arith, nat_tests)
 

@@ -1,5 +1,5 @@
 // Lists of units.
-ghost use Rattle.std.specs.Prelude.{◌≡◌, ℕ, List, ◌≤◌, ◌<◌, ◌==◌, ◌++◌, ◌∷◌, [], true, length, IfOk, OnOk, OnErr};
+ghost use Rattle.std.specs.Prelude.{◌≡◌, ℕ, List, ◌≤◌, ◌==◌, ◌++◌, ◌∷◌, [], true, length, IfOk, OnOk, OnErr};
 ghost use Rattle.rmx_media.specs.Avc.{sets_of};
 ghost use Rattle.rmx_media.specs.Config.{IsReadAvc};
 ghost use Rattle.rmx_media.specs.Units.{is_valid, units_of, annexb, native, AreFilled};

@@ -1,7 +1,7 @@
 // Units in their two spellings.
-ghost use Rattle.std.specs.Prelude.{◌≡◌, ℕ, List, ◌≤◌, ◌<◌, ◌^◌, ◌++◌, length, [], IfOk, OnOk};
+ghost use Rattle.std.specs.Prelude.{◌≡◌, ◌≤◌, ◌<◌, ◌^◌, ◌++◌, length, [], IfOk, OnOk};
 ghost use Rattle.rmx_media.specs.Bits.{bytes_of};
-ghost use Rattle.rmx_media.specs.Units.{annexb, native, sized, started};
+ghost use Rattle.rmx_media.specs.Units.{annexb, native, sized};
 ghost use Rattle.avc_units.specs.UnitList.{shown, AreShort};
 
 use bytes::Bytes;
