@@ -1,10 +1,6 @@
--- What it means that a lane is full, and that it has room.
-use Rattle.std.proofs.Common.{◌≡◌, ◌≢◌, ◌⊎◌, ℕ, ◌+◌, ◌<◌, ◌≤◌, Bool, true, false, ◌&&◌, ◌||◌, nat_lt, ◌==◌, inl, inr, ⊎_elim, refl, ap₂}
-use Rattle.std.proofs.lemmas.Bool.{ltb-true, lt-ltb, ltb-false, le-ltb, eqb-true, eq-eqb, eqb-false, ne_eqb}
-
-or_cases : (a b : Bool) → (a || b) ≡ true → (a ≡ true) ⊎ (b ≡ true)
-or_cases true b e = inl refl
-or_cases false b e = inr e
+-- What it means that a lane has room.
+use Rattle.std.proofs.Common.{◌≡◌, ◌≢◌, ℕ, ◌+◌, ◌<◌, ◌≤◌, Bool, true, false, ◌&&◌, ◌||◌, nat_lt, ◌==◌, refl, ap₂}
+use Rattle.std.proofs.lemmas.Bool.{ltb-true, lt-ltb, ltb-false, le-ltb, eqb-false, ne_eqb}
 
 or_neither : (a b : Bool) → (a || b) ≡ false → (a ≡ false) × (b ≡ false)
 or_neither true b e = absurd (cc)
@@ -18,14 +14,6 @@ and_not : (a b : Bool) → (a && b) ≡ false → a ≡ true → b ≡ false
 and_not true b e h = e
 and_not false b e h = absurd (cc)
 
-or_left : (a b : Bool) → a ≡ true → (a || b) ≡ true
-or_left true b e = refl
-or_left false b e = absurd (cc)
-
-or_right : (a b : Bool) → b ≡ true → (a || b) ≡ true
-or_right true b e = refl
-or_right false b e = e
-
 and_of : (a b : Bool) → a ≡ true → b ≡ true → (a && b) ≡ true
 and_of true b e h = h
 and_of false b e h = e
@@ -38,24 +26,11 @@ false_and false b h = refl
 abbrev test : ℕ → ℕ → ℕ → ℕ → ℕ → Bool
 test cap limit given taken bytes = (given == taken + cap) || ((nat_lt 0 limit && nat_lt taken given) && nat_lt limit bytes)
 
-pub full_tells : (cap limit given taken bytes : ℕ) → test cap limit given taken bytes ≡ true → (given ≡ taken + cap) ⊎ ((0 < limit) × (taken < given) × (limit < bytes))
-full_tells cap limit given taken bytes e = ⊎_elim
-    (λ (h : (given == taken + cap) ≡ true). inl (eqb-true given (taken + cap) h))
-    (λ (h : ((nat_lt 0 limit && nat_lt taken given) && nat_lt limit bytes) ≡ true). let x = and_both (nat_lt 0 limit && nat_lt taken given) (nat_lt limit bytes) h in let y = and_both (nat_lt 0 limit) (nat_lt taken given) x.0 in
-    inr (ltb-true 0 limit y.0, ltb-true taken given y.1, ltb-true limit bytes x.1))
-    (or_cases (given == taken + cap) _ e)
-
 pub room_tells : (cap limit given taken bytes : ℕ) → test cap limit given taken bytes ≡ false → (given ≢ taken + cap) × (0 < limit → taken < given → bytes ≤ limit)
 room_tells cap limit given taken bytes e = let x = or_neither (given == taken + cap) _ e in (
   eqb-false given (taken + cap) x.0,
   λ a b. ltb-false limit bytes (and_not (nat_lt 0 limit && nat_lt taken given) (nat_lt limit bytes) x.1 (and_of _ _ (lt-ltb 0 limit a) (lt-ltb taken given b))),
 )
-
-pub full_of : (cap limit given taken bytes : ℕ) → given ≡ taken + cap → test cap limit given taken bytes ≡ true
-full_of cap limit given taken bytes h = or_left (given == taken + cap) _ (eq-eqb given (taken + cap) h)
-
-pub heavy : (cap limit given taken bytes : ℕ) → 0 < limit → taken < given → limit < bytes → test cap limit given taken bytes ≡ true
-heavy cap limit given taken bytes a b c = or_right (given == taken + cap) _ (and_of _ _ (and_of _ _ (lt-ltb 0 limit a) (lt-ltb taken given b)) (lt-ltb limit bytes c))
 
 pub room_of : (cap limit given taken bytes : ℕ) → given ≢ taken + cap → (0 < limit → taken < given → bytes ≤ limit) → test cap limit given taken bytes ≡ false
 room_of cap limit given taken bytes ne light = ap₂ (λ (a b : Bool). a || b) (ne_eqb given (taken + cap) ne)

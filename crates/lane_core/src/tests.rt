@@ -1,3 +1,4 @@
+// Runs of the machine by worked cases.
 use crate::LaneEvent::{Close, Fail, Offer, See, Take};
 use crate::LaneReply::{Accepted, Done, Empty, Ended, Got, Overs, Refused, Shut};
 use crate::{LaneReply, LaneState, run_events};
