@@ -27,10 +27,6 @@ whole text h = slice_split_none is_comma text (All-from_get_or (λ c. is_comma c
 abbrev pub behind_these : List Spec → Result (List Spec) WordKind → Result (List Spec) WordKind
 behind_these found more = more >>= λ rest. Ok (found ++ rest)
 
-pub none_yet : (more : Result (List Spec) WordKind) → behind_these [] more ≡ more
-none_yet (Ok x) = refl
-none_yet (Err e) = refl
-
 regrouped : (found : List Spec) (s : Spec) (more : Result (List Spec) WordKind) → behind_these found (more >>= λ rest. Ok (s ∷ rest)) ≡ behind_these (found ++ s ∷ []) more
 regrouped found s (Ok x) = ap (λ (l : List Spec). Ok l) (sym (append_assoc found (s ∷ []) x))
 regrouped found s (Err e) = refl

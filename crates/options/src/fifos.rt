@@ -1,10 +1,8 @@
 //! The text of `fifo_options`.
 
-ghost use Rattle.std.specs.Prelude.{◌≡◌};
 ghost use Rattle.std.specs.Str.{chars};
 ghost use Rattle.options.specs.Read.{Gives};
-ghost use Rattle.options.specs.Repeat.{turn, all_parts};
-ghost use Rattle.options.specs.Fifo.{no_fifo};
+ghost use Rattle.options.specs.Repeat.{turn};
 ghost use Rattle.options.specs.Fifos.{fifo_part, fifo_all, fifo_options};
 
 use crate::block::{bare_value_at, key_at};

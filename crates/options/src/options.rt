@@ -1,6 +1,6 @@
 //! The block of options in front of an output's name.
 
-ghost use Rattle.std.specs.Prelude.{◌≡◌, ◌<◌, length};
+ghost use Rattle.std.specs.Prelude.{◌<◌};
 ghost use Rattle.std.specs.Str.{chars};
 ghost use Rattle.options.specs.Read.{Gives};
 ghost use Rattle.options.specs.Repeat.{turn, all_parts};

@@ -1,11 +1,10 @@
 //! The outputs of a tee's text.
 
-ghost use Rattle.std.specs.Prelude.{◌≡◌, [], map, option_map};
-ghost use Rattle.std.specs.Str.{chars, bytes_eq};
+ghost use Rattle.std.specs.Prelude.{◌≡◌, map, option_map};
+ghost use Rattle.std.specs.Str.{chars};
 ghost use Rattle.options.specs.Read.{Gives};
-ghost use Rattle.options.specs.Repeat.{turn, all_parts};
 ghost use Rattle.options.specs.Slave.{view};
-ghost use Rattle.options.specs.Tee.{is_named, is_taken, list_of, clashes, next_slave, slave_part, slaves};
+ghost use Rattle.options.specs.Tee.{is_named, is_taken, list_of, clashes, next_slave, slaves};
 
 use crate::escape::piece_at;
 use crate::fault::{ReadError, WordKind};

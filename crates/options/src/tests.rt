@@ -1,3 +1,4 @@
+// Words read into a plan, or refused, by worked examples.
 use super::*;
 use WordKind::*;
 use playlist::ListKind;

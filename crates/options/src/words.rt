@@ -1,6 +1,6 @@
 //! The words of a command line.
 
-ghost use Rattle.std.specs.Prelude.{◌≡◌, ◌+◌, ◌<◌, ◌^◌, length, map, string_bytes, min, IfOk};
+ghost use Rattle.std.specs.Prelude.{◌≡◌, ◌+◌, ◌<◌, ◌^◌, map, string_bytes, min, IfOk};
 ghost use Rattle.options.specs.Valid.{IsValidPlan};
 ghost use Rattle.options.specs.Read.{Gives};
 ghost use Rattle.options.specs.Slave.{view as slave_view};
