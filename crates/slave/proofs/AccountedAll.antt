@@ -1,5 +1,5 @@
 -- Every end meets the accounts of all that its output was given.
-use Rattle.std.proofs.Common.{◌≡◌, ℕ, ◌+◌, ◌≤◌, ◌<◌, ◌⊎◌, inl, inr, true, List, [], ◌∷◌, map, Some, refl, ap, sym, ◌∙◌, subst, arith}
+use Rattle.std.proofs.Common.{◌≡◌, ℕ, ◌≤◌, inl, inr, List, map, refl, ap, sym, ◌∙◌, subst, arith}
 use Rattle.fifo_core.specs.declared.types.FifoOptions.{FifoOptions}
 use Rattle.fifo_core.specs.declared.types.Fate.{Fate}
 use Rattle.fifo_core.specs.declared.types.Fate.TheVariants as fate
@@ -17,7 +17,7 @@ use Rattle.slave.specs.Table.{covered}
 use Rattle.slave.specs.End.{EndView, EndedAll}
 use Rattle.slave.specs.Accounts.{Has}
 use Rattle.slave.specs.AccountsAll.{SweptAt, MayFlush, EndsMeetAllAccounts}
-use Rattle.slave.proofs.Alive.{Alive, each_alive}
+use Rattle.slave.proofs.Alive.{each_alive}
 use Rattle.slave.proofs.Faultless.{notes_rise}
 use Rattle.slave.proofs.Settling.{all_settled}
 use Rattle.slave.proofs.Accounted.{end_wanted, key_wait_so, lost_so, restart_so, failed_so, wanted_so, want_stays, refused_so, flushed_so, turn_so}

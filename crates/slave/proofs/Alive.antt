@@ -1,5 +1,5 @@
 -- A packet is flushed only while the output isn't given up.
-use Rattle.std.proofs.Common.{◌≡◌, ℕ, inl, inr, Bool, true, false, if◌then◌else◌, List, [], ◌∷◌, refl, ap, sym, ◌∙◌, subst}
+use Rattle.std.proofs.Common.{◌≡◌, ℕ, inl, inr, Bool, true, false, if◌then◌else◌, List, [], ◌∷◌, refl}
 use Rattle.fifo_core.specs.declared.types.FifoOptions.{FifoOptions}
 use Rattle.fifo_core.specs.declared.types.PacketFacts.{PacketFacts}
 use Rattle.fifo_core.specs.declared.types.Answer.{Answer}
@@ -12,8 +12,8 @@ use Rattle.fifo_core.specs.declared.types.Fate.{Fate}
 use Rattle.fifo_core.specs.declared.types.Fate.TheVariants as fate
 use Rattle.fifo_core.specs.declared.types.Mode.{Mode}
 use Rattle.fifo_core.specs.declared.types.Mode.TheVariants.{Live, Broken, Dead}
-use Rattle.fifo_core.specs.History.{Begun, Tried, Fated, Want, History, wanted, mode_of, mode_is_dead, is_waiting, needs_restart, action_in, action_of, after_of, after_answer_of, flushed_in, flush_of, trying}
-use Rattle.fifo_core.specs.Follows.{Turn, Comes, Flushes, MayWant, Settled, SecondTry, Answered, FirstTry, Acted, Turned, Runs, Follows}
+use Rattle.fifo_core.specs.History.{Begun, Tried, Fated, Want, History, wanted, mode_of, mode_is_dead, is_waiting, needs_restart, action_in, action_of, after_of, flushed_in, trying}
+use Rattle.fifo_core.specs.Follows.{Turn, Comes, Flushes, MayWant, Settled, Answered, FirstTry, Acted, Turned, Runs, Follows}
 
 -- each fate Flushed was settled while the output wasn't given up
 abbrev pub Alive : FifoOptions → History → Type 0

@@ -3,11 +3,12 @@ use Rattle.std.proofs.Common.{◌≡◌, ℕ, ◌+◌, List, true, false, [], �
 use Rattle.fifo_core.specs.declared.types.Answer.{Answer}
 use Rattle.fifo_core.specs.declared.types.Answer.TheVariants as answer
 use Rattle.fifo_core.specs.State.{session_in}
+use Rattle.fifo_core.specs.History.{answered_done}
 use Rattle.slave.specs.declared.records.FaultAt.TheVariants.{Begin}
 use Rattle.slave.specs.declared.records.SessionNote.{SessionNote}
 use Rattle.slave.specs.Origin.{Origin}
 use Rattle.slave.specs.Calls.{begin_calls}
-use Rattle.slave.specs.Job.{JobView, Begins, Opens, CallsMade, is_done, number_of}
+use Rattle.slave.specs.Job.{JobView, Begins, Opens, CallsMade, number_of}
 
 -- the same answer, with another session noted
 abbrev pub noted : JobView → List SessionNote → ℕ → JobView
@@ -21,7 +22,7 @@ made_so answer.NoMemory v w sessions places b = b.calls.made
 
 -- the file was begun, and then the session's note was made
 pub opened : {out : Origin} (a : Answer) (v w : JobView) (sessions : List SessionNote) (places : ℕ) → Begins out v a w
-    → sessions ≡ w.sessions ++ record { number = session_in v.fifo; begun = is_done a; closed = false } ∷ [] → places + 1 ≡ w.session_places
+    → sessions ≡ w.sessions ++ record { number = session_in v.fifo; begun = answered_done a; closed = false } ∷ [] → places + 1 ≡ w.session_places
     → Opens out v a (noted w sessions places)
 opened a v w sessions places b noted_so taken = record {
   made = made_so a v w sessions places b;

@@ -1,7 +1,8 @@
 -- Runs of calls, one after another.
-use Rattle.std.proofs.Common.{◌≡◌, ℕ, ◌≤◌, Bool, true, false, ◌&&◌, ◌+◌, List, [], ◌∷◌, ◌++◌, length, Option, Some, None, Result, Ok, Err, refl, ap, sym, ◌∙◌, subst, arith, length-append, append_assoc, add_assoc, inl, inr}
+use Rattle.std.proofs.Common.{◌≡◌, ℕ, ◌≤◌, false, ◌+◌, List, [], ◌∷◌, ◌++◌, length, Option, Some, None, Result, Ok, Err, refl, ap, sym, ◌∙◌, subst, arith, length-append, append_assoc, add_assoc, inl, inr}
 use Rattle.std.specs.Prelude.{option_map, is_ok, IsErrOf}
 use Rattle.std.proofs.lemmas.List.{append-nil}
+use Rattle.std.proofs.Math.Bool.{and-false}
 use Rattle.playlist.specs.declared.seg_options.SegOptions.{SegOptions}
 use Rattle.rmx_edge.specs.declared.shelf.ShelfFault.{ShelfFault}
 use Rattle.rmx_edge.specs.declared.shelf.ShelfFault.TheVariants.{NoMemory}
@@ -19,13 +20,9 @@ use Rattle.slave.specs.Calls.{begin_calls, put_calls, puts, RunsOrWants}
 use Rattle.slave.specs.Segments.{number_after}
 use Rattle.slave.specs.Job.{SoundStays}
 
-and_false : (b : Bool) → (b && false) ≡ false
-and_false true = refl
-and_false false = refl
-
 -- a file that was ended is no longer being written
 pub ended_idle : (calls : List ShelfCall) (r : Result (Unit {0}) ShelfFault) (a b : ShelfState) → Runs (calls ++ Close ∷ []) r a b → b.writing ≡ false
-ended_idle calls r a b run = run.writing ∙ rw (writing_after-append calls (Close ∷ []) a.writing) (and_false (is_ok r))
+ended_idle calls r a b run = run.writing ∙ rw (writing_after-append calls (Close ∷ []) a.writing) (and-false (is_ok r))
 
 -- a flush that is refused after a packet was written is a refusal of its last write
 pub flush_stops : (calls : List ShelfCall) (e : ShelfFault) (a b c : ShelfState) → EndsInWrite calls → Completed calls a b → Flushes {T = Unit {0}} (Err e) b c → Stopped calls 0 a c

@@ -1,11 +1,12 @@
 -- Fates in order of their indices, and what was given in that order.
-use Rattle.std.proofs.Common.{◌≡◌, ℕ, zero, suc, ◌+◌, ◌-◌, ◌≤◌, ◌<◌, ◌⊎◌, inl, inr, Bool, true, false, ◌&&◌, if◌then◌else◌, List, [], ◌∷◌, ◌++◌, map, refl, ap, sym, ◌∙◌, subst, arith, append_assoc}
+use Rattle.std.proofs.Common.{◌≡◌, ℕ, zero, suc, ◌+◌, ◌-◌, ◌≤◌, ◌<◌, ◌⊎◌, inl, inr, Bool, true, false, ◌&&◌, if◌then◌else◌, List, [], ◌∷◌, ◌++◌, map, refl, sym, ◌∙◌, subst, arith}
+use Rattle.std.proofs.lemmas.Bool.{and_parts}
 use Rattle.fifo_core.specs.declared.types.PacketFacts.{PacketFacts}
 use Rattle.fifo_core.specs.declared.types.Fate.{Fate}
 use Rattle.fifo_core.specs.declared.types.Fate.TheVariants as fate
 use Rattle.fifo_core.specs.History.{Begun, Tried, Fated, Want, History, fates_of}
 use Rattle.fifo_core.specs.State.{Rises}
-use Rattle.fifo_core.specs.Follows.{Turn, Comes, Flushes}
+use Rattle.fifo_core.specs.Follows.{Comes, Flushes}
 use Rattle.fifo_core.specs.Causes.{HasTurn, InTurn, turn_index}
 use Rattle.rmx_media.specs.declared.packet.Packet.{Packet}
 use Rattle.slave.specs.declared.records.Run.{Run}
@@ -16,7 +17,7 @@ use Rattle.slave.specs.Table.{covered, indices}
 use Rattle.slave.specs.Accounts.{Has}
 use Rattle.slave.specs.AccountsAll.{GivesAt, SweptAt}
 use Rattle.slave.proofs.Lists.{no_memory_is}
-use Rattle.slave.proofs.Past.{has_split, has_front, rises_within, both}
+use Rattle.slave.proofs.Past.{has_split, has_front, rises_within}
 
 pub has_left : (xs ys : List (ℕ × Fate)) (i : ℕ) (f : Fate) → Has xs i f → Has (xs ++ ys) i f
 has_left [] ys i f h = absurd h
@@ -119,7 +120,7 @@ gap_has [] n g i f h = absurd h
 gap_has (x ∷ []) n g i f h =
     let s = spread_has (x.0 + 1) (gap_count x.1 g (x.0 + 1) n) g i f h in
     let c = gap_some (is_no_memory x.1 && is_no_memory g) (x.0 + 1) (n - (x.0 + 1)) i s.1 s.2 in
-    let b = both (is_no_memory x.1) (is_no_memory g) c.0 in
+    let b = and_parts (is_no_memory x.1) (is_no_memory g) c.0 in
     (s.0 ∙ no_memory_is g b.1, omega (arith, c.1, s.1), (x.0, omega (arith, s.1), inl (refl, no_memory_is x.1 b.0)))
 gap_has (x ∷ y ∷ ys) n g i f h = (let r = gap_has (y ∷ ys) n g i f h in (r.0, r.1, (r.2.0, r.2.1, inr r.2.2)))
 

@@ -6,19 +6,20 @@ use Rattle.std.proofs.Math.Nat.{eq-or-lt_of_le}
 use Rattle.std.proofs.lemmas.List.{append-nil, drop-map, take-append-le, length-map}
 use Rattle.std.proofs.lemmas.List.Sums.{sum_by-cons}
 use Rattle.std.proofs.Math.Seq.{take-length}
+use Rattle.std.proofs.lemmas.Option.{slice_get_within}
+use Rattle.std.proofs.lemmas.Bool.{ltb-true, or_right, or_from}
+use Rattle.std.proofs.Math.Bool.{or-false}
 use Rattle.lane_core.specs.Machine.{is_full, waiting}
 use Rattle.lane.specs.Follows.{size_of}
 use Rattle.lane.specs.Sides.{ReceiptSide}
 use Rattle.lane.specs.Sight.{Refusal}
-use Rattle.lane.specs.Told.{SawInTime}
 use Rattle.lane.specs.declared.msg.Msg.{Msg}
 use Rattle.rmx_media.specs.declared.packet.Packet.{Packet}
-use Rattle.slave.specs.declared.records.LaneNote.{LaneNote}
 use Rattle.slave.specs.Given.{Given, Sent, Swept, Gives}
-use Rattle.slave.specs.AccountsAll.{GivesAt, SweptAt}
-use Rattle.slave.specs.LaneAccounts.{is_named, accepted_from, payload_bytes, IsFullFor, IsReceipt, AreReceipts, SweptStretch, Dealt, messages_from, PassedOn}
-use Rattle.slave.specs.Handed.{Handed, message, receipt_of, HandsOver, LanesDeal}
-use Rattle.slave.proofs.Past.{same_number, number_same}
+use Rattle.slave.specs.AccountsAll.{GivesAt}
+use Rattle.slave.specs.LaneAccounts.{is_named, accepted_from, payload_bytes, IsFullFor, IsReceipt, AreReceipts, messages_from, PassedOn}
+use Rattle.slave.specs.Handed.{message, receipt_of, HandsOver, LanesDeal}
+use Rattle.slave.proofs.Past.{same_number, number_same, number_differs}
 
 -- the packets of the messages
 packets_of : (rs : List ReceiptSide) (n : ℕ) (L : List Packet) → accepted_from rs n L ≡ map (λ (m : Msg). m.packet) (messages_from rs n L)
@@ -30,11 +31,6 @@ packets_of rs n (p ∷ L) = by (is_named rs n) (packets_of rs (n + 1) L)
     by true e = e
     by false e = ap (λ (ps : List Packet). p ∷ ps) e
 
-get_within : (L : List Packet) (i : ℕ) (p : Packet) → slice_get L i ≡ Some p → i < length L
-get_within [] i p e = absurd (cc e)
-get_within (q ∷ L) zero p e = omega arith
-get_within (q ∷ L) (suc i) p e = (let x = get_within L i p e in omega (arith, x))
-
 get_more : (L M : List Packet) (i : ℕ) (p : Packet) → slice_get L i ≡ Some p → slice_get (L ++ M) i ≡ Some p
 get_more [] M i p e = absurd (cc e)
 get_more (q ∷ L) M zero p e = e
@@ -44,14 +40,6 @@ get_last : (L : List Packet) (p : Packet) → slice_get (L ++ p ∷ []) (length 
 get_last [] p = refl
 get_last (q ∷ L) p = get_last L p
 
-or_cases : (a b : Bool) → (a || b) ≡ true → (a ≡ true) ⊎ (b ≡ true)
-or_cases true b e = inl refl
-or_cases false b e = inr e
-
-or_none : (a b : Bool) → a ≡ false → b ≡ false → (a || b) ≡ false
-or_none true b e d = absurd (cc e)
-or_none false b e d = d
-
 apart_number : (a b : ℕ) → a < b → (a == b) ≡ false
 apart_number a b lt = grind (arith, nat_tests)
 
@@ -59,8 +47,8 @@ apart_number a b lt = grind (arith, nat_tests)
 not_yet : (cap limit : ℕ) (L A : List Packet) (v i h : ℕ) (rs : List ReceiptSide) (n : ℕ) → AreReceipts cap limit L A v i h rs → length L ≤ n → is_named rs n ≡ false
 not_yet cap limit L A v i h [] n k le = refl
 not_yet cap limit L A v i h (r ∷ rs) n k le =
-    let low = get_within L r.index k.0.packet k.0.at in
-    or_none (r.index == n) (is_named rs n) (apart_number r.index n (omega (arith, low, le))) (not_yet cap limit L A (v + 1) (r.index + 1) r.head rs n k.3 le)
+    let low = slice_get_within L r.index k.0.packet k.0.at in
+    or_from (r.index == n) (is_named rs n) (apart_number r.index n (omega (arith, low, le))) (not_yet cap limit L A (v + 1) (r.index + 1) r.head rs n k.3 le)
 
 named_push : (rs : List ReceiptSide) (r : ReceiptSide) (i : ℕ) → is_named (rs ++ r ∷ []) i ≡ (is_named rs i || (r.index == i))
 named_push [] r i = by (r.index == i)
@@ -73,10 +61,6 @@ named_push (q ∷ rs) r i = by (q.index == i) (is_named rs i) (r.index == i) (is
     by : (a b c d : Bool) → d ≡ (b || c) → (a || d) ≡ ((a || b) || c)
     by true b c d e = refl
     by false b c d e = e
-
-or_nothing : (b : Bool) → (b || false) ≡ b
-or_nothing true = refl
-or_nothing false = refl
 
 -- a receipt of a later packet changes nothing of those before
 same_messages : (rs qs : List ReceiptSide) (n : ℕ) (L : List Packet) → ((i : ℕ) → i < n + length L → is_named qs i ≡ is_named rs i) → messages_from qs n L ≡ messages_from rs n L
@@ -143,7 +127,7 @@ are_push cap limit L A v i h (q ∷ rs) r k new low head all =
 
 index_within : (cap limit : ℕ) (L A : List Packet) (v i h : ℕ) (rs : List ReceiptSide) (u : ℕ) (q : ReceiptSide) → AreReceipts cap limit L A v i h rs → slice_get rs u ≡ Some q → q.index < length L
 index_within cap limit L A v i h [] u q k e = absurd (cc e)
-index_within cap limit L A v i h (r ∷ rs) zero q k e = (let same : r ≡ q = cc in subst (λ (x : ReceiptSide). x.index < length L) same (get_within L r.index k.0.packet k.0.at))
+index_within cap limit L A v i h (r ∷ rs) zero q k e = (let same : r ≡ q = cc in subst (λ (x : ReceiptSide). x.index < length L) same (slice_get_within L r.index k.0.packet k.0.at))
 index_within cap limit L A v i h (r ∷ rs) (suc u) q k e = index_within cap limit L A (v + 1) (r.index + 1) r.head rs u q k.3 e
 
 heads_at : (rs : List ReceiptSide) (qs : List (Refusal Msg)) (u : ℕ) (r : ReceiptSide) → map (λ (x : ReceiptSide). x.head) rs ≡ map (λ (x : Refusal Msg). x.head) qs → slice_get rs u ≡ Some r
@@ -181,9 +165,6 @@ full_bools false true true false e = absurd (cc e)
 full_bools false true false d e = absurd (cc e)
 full_bools false false c d e = absurd (cc e)
 
-lt_so : (a b : ℕ) → nat_lt a b ≡ true → a < b
-lt_so a b e = grind (arith, nat_tests)
-
 -- the lane was full in the words of the receipt
 full_so : (cap limit : ℕ) (given : List Msg) (head : ℕ) (p : Packet) (r : ReceiptSide) → r.accepted ≡ length given → r.head ≡ head → r.bytes ≡ sum_by size_of (waiting given head)
     → is_full size_of (record { cap = cap; limit = limit }) given head (length p.payload) ≡ true → IsFullFor cap limit r p
@@ -191,9 +172,9 @@ full_so cap limit given head p r is_accepted is_head is_bytes e =
     elim (full_bools (length given == head + cap) (nat_lt 0 limit) (nat_lt head (length given)) (nat_lt limit (sum_by size_of (waiting given head) + length p.payload)) e) [
       | inl a ↦ inl (let x = same_number (length given) (head + cap) a in omega (arith, is_accepted, is_head, x))
       | inr b ↦ inr (
-        lt_so 0 limit b.0,
-        (let x = lt_so head (length given) b.1 in omega (arith, is_accepted, is_head, x)),
-        (let x = lt_so limit (sum_by size_of (waiting given head) + length p.payload) b.2 in omega (arith, is_bytes, x)),
+        ltb-true 0 limit b.0,
+        (let x = ltb-true head (length given) b.1 in omega (arith, is_accepted, is_head, x)),
+        (let x = ltb-true limit (sum_by size_of (waiting given head) + length p.payload) b.2 in omega (arith, is_bytes, x)),
       )
     ]
 
@@ -213,13 +194,6 @@ waiting_bytes given A head is =
 map_push : (ms : List Msg) (m : Msg) → map (λ (x : Msg). x.packet) (ms ++ m ∷ []) ≡ map (λ (x : Msg). x.packet) ms ++ m.packet ∷ []
 map_push [] m = refl
 map_push (x ∷ ms) m = ap (λ (ps : List Packet). x.packet ∷ ps) (map_push ms m)
-
-last_named : (a b : Bool) → b ≡ true → (a || b) ≡ true
-last_named true b e = refl
-last_named false b e = e
-
-apart_later : (i m : ℕ) → i < m → (m == i) ≡ false
-apart_later i m lt = grind (arith, nat_tests)
 
 pub hands_over : HandsOver
 hands_over = record {
@@ -246,9 +220,9 @@ hands_over = record {
       (let r = receipt_of (length L) given rs q.head in
       let qs = rs ++ r ∷ [] in
       let A = accepted_from rs 0 L in
-      let here : is_named qs (0 + length L) ≡ true = named_push rs r (0 + length L) ∙ last_named (is_named rs (0 + length L)) (length L == 0 + length L) (number_same (length L) (0 + length L) (omega arith)) in
+      let here : is_named qs (0 + length L) ≡ true = named_push rs r (0 + length L) ∙ or_right (is_named rs (0 + length L)) (length L == 0 + length L) (number_same (length L) (0 + length L) (omega arith)) in
       let same : (i : ℕ) → i < 0 + length L → is_named qs i ≡ is_named rs i =
-      λ i lt. named_push rs r i ∙ ap (λ (b : Bool). is_named rs i || b) (apart_later i (length L) (omega (arith, lt))) ∙ or_nothing (is_named rs i) in
+      λ i lt. named_push rs r i ∙ ap (λ (b : Bool). is_named rs i || b) (number_differs i (length L) (omega (arith, lt))) ∙ or-false (is_named rs i) in
       let kept : messages_from qs 0 (L ++ p ∷ []) ≡ messages_from rs 0 L = messages_left_out qs 0 L p here ∙ same_messages rs qs 0 L same in
       let accepted : accepted_from qs 0 (L ++ p ∷ []) ≡ A = packets_of qs 0 (L ++ p ∷ []) ∙ ap (map (λ (m : Msg). m.packet)) kept ∙ sym (packets_of rs 0 L) in
       let many : length A ≡ length given = ap length (packets_of rs 0 L) ∙ length-map (messages_from rs 0 L) (λ (m : Msg). m.packet) ∙ sym (ap length k.given_is) in
@@ -342,7 +316,7 @@ lanes_deal L given refusals T numbers n k overs saw passed stretches =
     let many : length rs ≡ length refusals = sym (length-map rs (λ (r : ReceiptSide). r.head)) ∙ ap length k.heads ∙ length-map refusals (λ (q : Refusal Msg). q.head) in
     record {
       each = λ i lt e. (let x = at_messages rs 0 L i (omega arith) (omega (arith, lt)) e in msg_at T given i x.0 passed (subst (λ (ms : List Msg). HasMsg ms i x.0) (sym k.given_is) x.1));
-      apart = λ i g. (let x = at_msg T given i passed g in let y = place i x.0 x.1 in (get_within L i x.0 y.0, y.1));
+      apart = λ i g. (let x = at_msg T given i passed g in let y = place i x.0 x.1 in (slice_get_within L i x.0 y.0, y.1));
       packets = λ i p g. (place i p (gives_msg T given i p passed g)).0;
       receipts = (k.receipts, overs ∙ sym many);
       seen = λ j x at. (let s = saw j x at in

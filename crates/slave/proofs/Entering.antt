@@ -1,10 +1,11 @@
 -- Runs with the refusals between them.
-use Rattle.std.proofs.Common.{◌≡◌, ℕ, zero, suc, ◌+◌, ◌≤◌, ◌<◌, ◌⊎◌, inl, inr, Bool, true, false, not, ◌||◌, ◌==◌, nat_lt, if◌then◌else◌, List, [], ◌∷◌, ◌++◌, length, map, refl, ap, sym, ◌∙◌, subst, arith}
-use Rattle.std.specs.Prelude.{filter, slice_get, Some}
-use Rattle.std.proofs.lemmas.Bool.Decides.{nat_tests}
+use Rattle.std.proofs.Common.{◌≡◌, ℕ, zero, suc, ◌+◌, ◌≤◌, ◌<◌, ◌⊎◌, inl, inr, Bool, true, false, not, ◌==◌, nat_lt, if◌then◌else◌, List, [], ◌∷◌, ◌++◌, length, map, refl, ap, sym, ◌∙◌, subst, arith}
+use Rattle.std.specs.Prelude.{filter}
 use Rattle.std.proofs.Math.Nat.{eq-or-lt_of_le}
 use Rattle.std.proofs.lemmas.List.{append-nil}
 use Rattle.std.proofs.lemmas.List.Elements.{filter-append}
+use Rattle.std.proofs.lemmas.Bool.{or_cases, or_right, ltb-true, ltb-false}
+use Rattle.std.proofs.lemmas.Option.{slice_get_within}
 use Rattle.fifo_core.specs.declared.types.Fate.{Fate}
 use Rattle.fifo_core.specs.declared.types.Fate.TheVariants as fate
 use Rattle.lane.specs.Sides.{ReceiptSide}
@@ -17,12 +18,6 @@ use Rattle.slave.specs.LaneAccounts.{Names, is_named, unrefused, AreReceipts}
 use Rattle.slave.proofs.Lists.{expand_append}
 use Rattle.slave.proofs.Past.{same_number, number_same}
 use Rattle.slave.proofs.Covers.{has_left, has_right, has_cases}
-
-lt_so : (a b : ℕ) → nat_lt a b ≡ true → a < b
-lt_so a b e = grind (arith, nat_tests)
-
-lt_not : (a b : ℕ) → nat_lt a b ≡ false → b ≤ a
-lt_not a b e = grind (arith, nat_tests)
 
 -- numbers and indices of the receipts rise
 abbrev pub Rising : (number index : ℕ) → List ReceiptSide → Type 0
@@ -50,7 +45,7 @@ rising_behind v n m (r ∷ rs) k = by (nat_lt r.index m) refl (rising_low v (r.n
   where
     by : (b : Bool) → nat_lt r.index m ≡ b → Rising v m (behind m rs) → Rising v m (if b then behind m rs else r ∷ rs)
     by true e more = more
-    by false e more = (k.0, lt_not r.index m e, k.2)
+    by false e more = (k.0, ltb-false r.index m e, k.2)
 
 rising_below : (v n m : ℕ) (rs : List ReceiptSide) → Rising v n rs → Rising v n (below m rs)
 rising_below v n m [] k = tt
@@ -65,7 +60,7 @@ names_below m [] v i x = absurd x
 names_below m (r ∷ rs) v i x = by (nat_lt r.index m) refl (names_below m rs v i) x
   where
     by : (b : Bool) → nat_lt r.index m ≡ b → (Names (below m rs) v i → Names rs v i × (i < m)) → Names (if b then r ∷ below m rs else []) v i → Names (r ∷ rs) v i × (i < m)
-    by true e more (inl y) = (inl y, (let z = lt_so r.index m e in omega (arith, z, y.1)))
+    by true e more (inl y) = (inl y, (let z = ltb-true r.index m e in omega (arith, z, y.1)))
     by true e more (inr y) = (let z = more y in (inr z.0, z.1))
     by false e more y = absurd y
 
@@ -87,22 +82,14 @@ names_cases m (r ∷ rs) v i x = by (nat_lt r.index m) (names_cases m rs v i) x
     by true more (inr y) = elim (more y) [ inl a ↦ inl (inr a) | inr b ↦ inr b ]
     by false more y = inr y
 
-or_true : (a b : Bool) → (a || b) ≡ true → (a ≡ true) ⊎ (b ≡ true)
-or_true true b e = inl refl
-or_true false b e = inr e
-
-or_false : (a b : Bool) → b ≡ true → (a || b) ≡ true
-or_false true b e = refl
-or_false false b e = e
-
 pub names_named : (rs : List ReceiptSide) (v i : ℕ) → Names rs v i → is_named rs i ≡ true
 names_named [] v i x = absurd x
 names_named (r ∷ rs) v i (inl e) = rw (number_same r.index i e.1) refl
-names_named (r ∷ rs) v i (inr x) = or_false (r.index == i) (is_named rs i) (names_named rs v i x)
+names_named (r ∷ rs) v i (inr x) = or_right (r.index == i) (is_named rs i) (names_named rs v i x)
 
 pub named_names : (rs : List ReceiptSide) (i : ℕ) → is_named rs i ≡ true → (v : ℕ) × Names rs v i
 named_names [] i e = absurd (cc e)
-named_names (r ∷ rs) i e = elim (or_true (r.index == i) (is_named rs i) e) [
+named_names (r ∷ rs) i e = elim (or_cases (r.index == i) (is_named rs i) e) [
   | inl a ↦ (r.number, inl (refl, same_number r.index i a))
   | inr b ↦ (let x = named_names rs i b in (x.0, inr x.1))
 ]
@@ -291,12 +278,7 @@ pub is_empty_so : (rs qs : List ReceiptSide) → rs ≡ qs → (b : Bool) → b 
 is_empty_so [] qs e b t is = sym e
 is_empty_so (r ∷ rs) qs e b t is = (let none : suc (length rs) ≡ 0 = same_number (suc (length rs)) 0 (sym is ∙ t) in absurd (omega (arith, none)))
 
-slice_within : (L : List Packet) (i : ℕ) (p : Packet) → slice_get L i ≡ Some p → i < length L
-slice_within [] i p e = absurd (cc e)
-slice_within (q ∷ L) zero p e = omega arith
-slice_within (q ∷ L) (suc i) p e = (let x = slice_within L i p e in omega (arith, x))
-
 pub receipts_within : (cap limit : ℕ) (L accepted : List Packet) (v n h : ℕ) (rs : List ReceiptSide) (u i : ℕ) → AreReceipts cap limit L accepted v n h rs → Names rs u i → i < length L
 receipts_within cap limit L accepted v n h [] u i k x = absurd x
-receipts_within cap limit L accepted v n h (r ∷ rs) u i k (inl e) = (let y = slice_within L r.index k.0.packet k.0.at in omega (arith, y, e.1))
+receipts_within cap limit L accepted v n h (r ∷ rs) u i k (inl e) = (let y = slice_get_within L r.index k.0.packet k.0.at in omega (arith, y, e.1))
 receipts_within cap limit L accepted v n h (r ∷ rs) u i k (inr x) = receipts_within cap limit L accepted (v + 1) (r.index + 1) r.head rs u i k.3 x

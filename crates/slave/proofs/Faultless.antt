@@ -2,7 +2,7 @@
 use Rattle.std.proofs.Common.{◌≡◌, ℕ, ◌+◌, ◌≤◌, ◌<◌, ◌⊎◌, inl, inr, Bool, true, false, not, ◌&&◌, if◌then◌else◌, List, [], ◌∷◌, ◌++◌, length, map, filter_map, Option, Some, None, is_some, refl, ap, sym, ◌∙◌, subst, arith, append_assoc}
 use Rattle.std.specs.Prelude.{option_map}
 use Rattle.std.specs.List.{cons_option}
-use Rattle.std.proofs.lemmas.Bool.{cases_lt}
+use Rattle.std.proofs.lemmas.Bool.{cases_lt, false_from_ne_true}
 use Rattle.std.proofs.lemmas.List.{append-nil}
 use Rattle.fifo_core.specs.declared.types.FifoOptions.{FifoOptions}
 use Rattle.fifo_core.specs.declared.types.Answer.{Answer}
@@ -122,10 +122,6 @@ all_bytes calls b a s is e =
     let none : raised (raised 0 0) (bytes_of calls) ≡ raised 0 (bytes_of calls) = omega arith in
     ap total inner ∙ total-accepted calls (counted 0 0) ∙ none
 
-no_lists : (b : Bool) → (b ≡ true → ⊥) → b ≡ false
-no_lists true f = absurd (f refl)
-no_lists false f = refl
-
 pub holds_all : NoFaultNoLoss
 unfolding note_of counted
 holds_all out o L e k no_fault no_want no_list =
@@ -134,7 +130,7 @@ holds_all out o L e k no_fault no_want no_list =
     let now = with_count e.shelf k.before k.added in
     let rises : NotesRise out.shelf.faults e.faults now.faults = rw k.are_faults (notes_rise out (StandsAt L) out.shelf now k.rows k.chain k.each) in
     let none = no_notes out.shelf.faults now.faults e.faults rises no_fault in
-    let fine : e.state ≡ ends.NoMemory → ⊥ = λ (x : e.state ≡ ends.NoMemory). no_want (k.excuse (no_lists (asks_list out.seg) (λ y. no_list (y, x))) x none) in
+    let fine : e.state ≡ ends.NoMemory → ⊥ = λ (x : e.state ≡ ends.NoMemory). no_want (k.excuse (false_from_ne_true (asks_list out.seg) (λ y. no_list (y, x))) x none) in
     let told = told_notes h k.end_answer e.faults k.notes none in
     let unwanted = end_unwanted o h k.end_answer (wanted h) refl k.end_called (λ s n. (let g : end_of h k.end_answer ≡ ends.NoMemory = rw n s in fine (k.state ∙ g))) in
     let clean = all_done h told.1 unwanted in

@@ -15,8 +15,8 @@ use Rattle.slave.specs.Origin.{Origin}
 use Rattle.slave.specs.declared.records.SessionNote.{SessionNote}
 use Rattle.slave.specs.declared.records.FaultAt.TheVariants.{End}
 use Rattle.slave.specs.declared.records.FaultNote.{FaultNote}
-use Rattle.slave.specs.Calls.{end_calls, number_in}
-use Rattle.slave.specs.Segments.{start_of, asks_list}
+use Rattle.slave.specs.Calls.{end_calls}
+use Rattle.slave.specs.Segments.{start_of}
 use Rattle.rmx_edge.specs.Count.{raised, Rose}
 use Rattle.rmx_edge.specs.Counted.{with_count}
 use Rattle.rmx_edge.proofs.Run.{rose_later}

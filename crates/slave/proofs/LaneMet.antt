@@ -1,5 +1,6 @@
 -- An end behind a lane meets its accounts once the refusals are entered.
-use Rattle.std.proofs.Common.{◌≡◌, ℕ, ◌+◌, ◌-◌, ◌≤◌, ◌<◌, ◌⊎◌, inl, inr, Bool, true, false, not, if◌then◌else◌, List, [], ◌∷◌, ◌++◌, length, map, slice_get, Some, refl, ap, sym, ◌∙◌, subst, arith}
+use Rattle.std.proofs.Common.{◌≡◌, ℕ, ◌+◌, ◌-◌, ◌≤◌, ◌<◌, ◌⊎◌, inl, inr, Bool, true, false, List, [], ◌∷◌, length, slice_get, Some, refl, ap, sym, ◌∙◌, subst, arith}
+use Rattle.std.proofs.lemmas.Bool.{cases_Bool, both_ways}
 use Rattle.fifo_core.specs.declared.types.FifoOptions.{FifoOptions}
 use Rattle.fifo_core.specs.declared.types.EndState.{EndState}
 use Rattle.fifo_core.specs.declared.types.EndState.TheVariants as ends
@@ -15,15 +16,15 @@ use Rattle.slave.specs.declared.records.Run.{Run}
 use Rattle.slave.specs.Origin.{Origin}
 use Rattle.slave.specs.Given.{Given, Gives, index_of, end_from}
 use Rattle.slave.specs.Runs.{expand, AreInOrder}
-use Rattle.slave.specs.Table.{StandsAt, indices}
+use Rattle.slave.specs.Table.{StandsAt}
 use Rattle.slave.specs.End.{EndView, EndedAll}
-use Rattle.slave.specs.Accounts.{Has, IsHit, IsLastBefore, IsWaiting, NotesRise, MayWait, MayBeLost, MayStand}
-use Rattle.slave.specs.AccountsAll.{GivesAt, SweptAt, MayFlush, AccountsAll}
+use Rattle.slave.specs.Accounts.{Has, IsHit, IsLastBefore, NotesRise, MayWait, MayBeLost, MayStand}
+use Rattle.slave.specs.AccountsAll.{GivesAt, MayFlush, AccountsAll}
 use Rattle.slave.specs.Entered.{entered}
-use Rattle.slave.specs.LaneAccounts.{Names, is_named, unrefused, ReceiptsTell, Stretch, SweptStretch, Dealt, AddsLane, AccountsLane, UnrefusedFollow}
-use Rattle.slave.proofs.AccountedAll.{all_accounts_met, climbs, in_order, tells, back, rises}
+use Rattle.slave.specs.LaneAccounts.{Names, is_named, unrefused, Stretch, SweptStretch, Dealt, AddsLane, AccountsLane, UnrefusedFollow}
+use Rattle.slave.proofs.AccountedAll.{all_accounts_met, climbs, in_order, back, rises}
 use Rattle.slave.proofs.Accounted.{same_packet}
-use Rattle.slave.proofs.Covers.{Above, above_once, order_above, order_within, rises_above, gives_at, index_has, has_index}
+use Rattle.slave.proofs.Covers.{Above, above_once, order_above, order_within, rises_above, index_has, has_index}
 use Rattle.slave.proofs.Entering.{Rising, are_rising, names_named, named_names, entered_has, has_entered, named_entered, receipts_within, entered_order, entered_differ, entered_unrefused, entered_empty}
 use Rattle.slave.proofs.Lists.{order_later}
 use Rattle.slave.proofs.Stretches.{unrefused_fates, given_cases, stretch_of}
@@ -39,19 +40,6 @@ pub record Enters (L : List Packet) (rs : List ReceiptSide) (old new : List Run)
 end_within : (n m : ℕ) (T : List Given) → n ≤ m → ((i : ℕ) → GivesAt T i → i < m) → end_from n T ≤ m
 end_within n m [] le all = le
 end_within n m (t ∷ T) le all = (let lt = all (index_of t) (inl refl) in end_within (index_of t + 1) m T (omega (arith, lt)) (λ i g. all i (inr g)))
-
-gives_index : (T : List Given) (i : ℕ) (p : Packet) → Gives T i p → GivesAt T i
-gives_index T i p g = gives_at T i p g
-
-not_named : (b : Bool) → (b ≡ true) ⊎ (b ≡ false)
-not_named true = inl refl
-not_named false = inr refl
-
-both_ways : (b : Bool) → b ≡ true → b ≡ false → ⊥
-both_ways b t f = (let x : true ≡ false = sym t ∙ f in cc x)
-
-refused_other : (v : ℕ) (f : Fate) → f ≡ fate.Refused v → (f ≡ fate.NoMemory → ⊥)
-refused_other v f e n = (let x : fate.Refused v ≡ fate.NoMemory = sym e ∙ n in cc x)
 
 -- where fates were the same before, but for refusals, their causes are
 module _ (g : Origin) (o : FifoOptions) (rs : List ReceiptSide) (old new : List (ℕ × Fate)) (notes : List FaultNote)
@@ -91,14 +79,14 @@ module _ {g : Origin} {o : FifoOptions} {L : List Packet} {T : List Given} {numb
 
   -- what is refused was not given
   named_apart : (i : ℕ) → is_named n.receipts.items i ≡ true → GivesAt T i → ⊥
-  named_apart i e x = both_ways (is_named n.receipts.items i) e (d.apart i x).1
+  named_apart i e x = both_ways (is_named n.receipts.items i) (d.apart i x).1 e
 
   -- the fates of the packets that were not refused are those of the history
   unrefused_are : unrefused n.receipts.items (expand old.fates) ≡ fates_of k.history
   unrefused_are =
       ap (unrefused n.receipts.items) k.fates
       ∙ unrefused_fates n.receipts.items k.history (end_from 0 T) (subst (Above 0) k.fates (in_order k)) (rises k)
-      (λ j lt. elim (not_named (is_named n.receipts.items j)) [
+      (λ j lt. elim (cases_Bool (is_named n.receipts.items j)) [
         | inl e ↦ inl e
         | inr e ↦ inr (index_has (fates_of k.history) T j k.indexed (d.each j (let m = end_within 0 (length L) T (omega arith) (λ i x. (d.apart i x).0) in omega (arith, lt, m)) e))
       ])
@@ -146,7 +134,7 @@ module _ {g : Origin} {o : FifoOptions} {L : List Packet} {T : List Given} {numb
       record {
         lane = a.lane;
         order = r.order;
-        covers = λ i lt. elim (not_named (is_named names i)) [
+        covers = λ i lt. elim (cases_Bool (is_named names i)) [
           | inr c ↦ (let x = acc.covers i (d.each i lt c) in inl (x.0, r.keeps i x.0 x.1))
           | inl c ↦ (let x = named_names names i c in
               elim (r.enters i x.0 x.1) [
@@ -268,6 +256,8 @@ adds_entered n old new lane shelf sessions faults inline bytes state is =
       bytes = bytes;
       state = state;
       fates = ap (λ (rs : List Run). unrefused names (expand rs)) is ∙ entered_unrefused names old.fates names (names_named names);
+      all = λ _. is;
+      none = λ wanted. absurd (cc wanted);
       same = λ none. (is ∙ sym (entered_empty old.fates names none), refl);
     }
 
@@ -283,5 +273,7 @@ adds_none n old new lane shelf sessions faults inline bytes state is some = reco
   bytes = bytes;
   state = state;
   fates = ap (λ (rs : List Run). unrefused n.receipts.items (expand rs)) is;
+  all = λ entire. absurd (cc entire);
+  none = λ _. is;
   same = λ none. absurd (some none);
 }

@@ -125,9 +125,6 @@ pushed_push rs front r i f split k apart =
     let gap : gap_after (expand rs) i f ≡ [] = rw split (last_gap front r i f order ∙ rw none refl) in
     expand_push rs i f ∙ rw (gap, append-nil) refl
 
-pub pushed_first : (rs : List Run) (i : ℕ) (f : Fate) → rs ≡ [] → expand (rs ++ record { fate = f; first = i; count = 1 } ∷ []) ≡ pushed (expand rs) i f
-pushed_first rs i f e = rw e refl
-
 -- the last run goes on
 pub expand_join : (old new front : List Run) (r : Run) (i : ℕ) (f : Fate) → old ≡ front ++ r ∷ [] → r.fate ≡ f → GoesOn r i f → AreInOrder i old
     → new ≡ front ++ record { fate = f; first = r.first; count = i - r.first + 1 } ∷ [] → expand new ≡ pushed (expand old) i f

@@ -1,18 +1,19 @@
 -- How many packets a lane's overflows cost.
-use Rattle.std.proofs.Common.{◌≡◌, ℕ, zero, suc, ◌+◌, ◌*◌, ◌≤◌, ◌<◌, ◌⊎◌, inl, inr, Bool, true, false, not, ◌&&◌, ◌==◌, nat_lt, if◌then◌else◌, List, [], ◌∷◌, ◌++◌, length, Some, refl, ap, sym, ◌∙◌, subst, arith}
-use Rattle.std.specs.Prelude.{count_by, slice_get}
+use Rattle.std.proofs.Common.{◌≡◌, ℕ, zero, suc, ◌+◌, ◌*◌, ◌≤◌, ◌<◌, ◌⊎◌, inl, inr, Bool, true, false, not, ◌&&◌, ◌==◌, nat_lt, if◌then◌else◌, List, [], ◌∷◌, ◌++◌, length, refl, ap, sym, ◌∙◌, subst, arith}
+use Rattle.std.specs.Prelude.{count_by}
 use Rattle.std.proofs.lemmas.Bool.Decides.{nat_tests}
 use Rattle.std.proofs.lemmas.List.Sums.{sum_by-cons, sum_by-append, count_by-le-length}
 use Rattle.std.proofs.Math.Nat.{mul-suc, suc-mul}
+use Rattle.std.proofs.lemmas.Bool.{false_from_ne_true}
 use Rattle.fifo_core.specs.declared.types.Fate.{Fate}
 use Rattle.fifo_core.specs.declared.types.Fate.TheVariants as fate
 use Rattle.lane.specs.Sides.{ReceiptSide}
 use Rattle.rmx_media.specs.declared.packet.Packet.{Packet}
 use Rattle.slave.specs.Runs.{expand}
 use Rattle.slave.specs.Accounts.{Has}
-use Rattle.slave.specs.LaneAccounts.{Names, is_named, unrefused, AreReceipts, Stretch, AccountsLane, is_refused, is_flushed, LossIsBounded}
+use Rattle.slave.specs.LaneAccounts.{Names, is_named, unrefused, AreReceipts, Stretch, is_refused, is_flushed, LossIsBounded}
 use Rattle.slave.proofs.Covers.{Above, above_has, order_above}
-use Rattle.slave.proofs.Past.{same_number, number_same}
+use Rattle.slave.proofs.Past.{same_number}
 use Rattle.slave.proofs.Entering.{Rising, are_rising, rising_names, named_names}
 
 -- the fates that pass a test
@@ -209,10 +210,6 @@ unrefused_has rs (x ∷ xs) i f h = by (is_named rs x.0) (unrefused_has rs xs i 
     by false more (inr y) = inr (more y)
     by true more y = inr (more y)
 
-not_true : (b : Bool) → (b ≡ true → ⊥) → b ≡ false
-not_true true f = absurd (f refl)
-not_true false f = refl
-
 pub loss_bounded : LossIsBounded
 loss_bounded g o L n e k =
     let rs = n.receipts.items in
@@ -242,7 +239,7 @@ loss_bounded g o L n e k =
     ] in
     let flushes = count_numbers flush_number n.cap us each_flushed total in
     let are_kept : count is_flushed fs ≤ count is_flushed us =
-    count_kept is_flushed rs fs (λ i f h t. not_true (is_named rs i) (λ named. (let r = flushed_is f t in
+    count_kept is_flushed rs fs (λ i f h t. false_from_ne_true (is_named rs i) (λ named. (let r = flushed_is f t in
     let v = named_names rs i named in
     let there = subst (Has fs i) r.1 h in
     elim (k.entered i v.0 v.1) [

@@ -1,5 +1,5 @@
 -- What a muxer's calls did, by its format.
-use Rattle.std.proofs.Common.{◌≡◌, ℕ, ◌≤◌, Bool, true, false, ◌&&◌, arith, inl, inr, List, Option, Some, None, Result, Ok, Err, refl, ◌∙◌, sym, ap}
+use Rattle.std.proofs.Common.{◌≡◌, ℕ, ◌≤◌, Bool, true, false, ◌&&◌, arith, inl, inr, List, Option, Some, None, Result, Ok, Err, refl, ◌∙◌, sym}
 use Rattle.std.specs.Prelude.{is_some, IsErrOf}
 use Rattle.playlist.specs.declared.seg_options.SegOptions.{SegOptions}
 use Rattle.playlist.specs.Template.{TemplateParts, template}

@@ -1,16 +1,18 @@
 -- The turns of a worker, as stretches of what was given.
-use Rattle.std.proofs.Common.{◌≡◌, ℕ, zero, suc, ◌+◌, ◌≤◌, ◌<◌, ◌⊎◌, inl, inr, Bool, true, false, nat_lt, List, [], ◌∷◌, ◌++◌, length, map, slice_get, Some, refl, ap, sym, ◌∙◌, subst, arith, append_assoc, length-append}
-use Rattle.std.proofs.lemmas.Bool.Decides.{nat_tests}
+use Rattle.std.proofs.Common.{◌≡◌, ℕ, suc, ◌+◌, ◌≤◌, ◌<◌, ◌⊎◌, inl, inr, Bool, true, false, nat_lt, List, [], ◌∷◌, ◌++◌, length, map, slice_get, Some, refl, ap, sym, ◌∙◌, subst, arith, append_assoc, length-append}
 use Rattle.std.proofs.lemmas.List.{length-map}
+use Rattle.std.proofs.lemmas.Bool.{ltb-true}
+use Rattle.fifo_core.specs.declared.types.FifoOptions.{FifoOptions}
+use Rattle.fifo_core.specs.History.{History}
 use Rattle.lane.specs.declared.msg.Msg.{Msg}
 use Rattle.rmx_media.specs.declared.packet.Packet.{Packet}
 use Rattle.slave.specs.Given.{Given, Sent, Swept, Gives}
 use Rattle.slave.specs.AccountsAll.{SweptAt}
-use Rattle.slave.specs.LaneAccounts.{SweptStretch}
-use Rattle.slave.specs.LaneAccounts.{PassedOn}
+use Rattle.slave.specs.LaneAccounts.{PassedOn, SweptStretch}
 use Rattle.slave.specs.Stretches.{Block, sent, swept, given_in, larger, given_of, messages_of, numbers_of, size_limit, Sized, Stretches}
 use Rattle.slave.specs.WorkerDeals.{WorkersPassOn}
 use Rattle.slave.proofs.Stretches.{swept_cases}
+use Rattle.slave.specs.Origin.{Origin}
 
 -- a stretch in what was given from the n-th message on
 record From (size n : ℕ) (numbers : List (ℕ × ℕ)) (v : ℕ) (T : List Given) : Type 0 where
@@ -39,9 +41,6 @@ swept_only : (k : ℕ) (ms : List Msg) (i : ℕ) (p : Packet) → Gives (map (sw
 swept_only k [] i p g = g
 swept_only k (m ∷ ms) i p g = swept_only k ms i p g
 
-lt_so : (a b : ℕ) → nat_lt a b ≡ true → a < b
-lt_so a b e = grind (arith, nat_tests)
-
 -- what was given by these turns, and what came after
 abbrev whole : ℕ → List Block → List Msg → List Given
 whole last bs A = given_of last bs ++ map sent A
@@ -55,7 +54,7 @@ module _ (A : List Msg) where
       by : (t : Bool) → nat_lt last b.number ≡ t → (SweptAt (whole b.number bs A) i v → b.number < v) → (SweptAt (whole last bs A) i v → last < v)
           → SweptAt ((given_in t b ++ given_of (larger t b.number last) bs) ++ map sent A) i v → last < v
       by true e higher same s =
-          let above = lt_so last b.number e in
+          let above = ltb-true last b.number e in
           elim (swept_cases (map (swept b.number) b.messages) (whole b.number bs A) i v (subst (λ (T : List Given). SweptAt T i v) (append_assoc (map (swept b.number) b.messages) (given_of b.number bs) (map sent A)) s)) [
             | inl x ↦ (let k = swept_number b.number b.messages i v x in omega (arith, k, above))
             | inr x ↦ (let k = higher x in omega (arith, k, above))
@@ -160,28 +159,35 @@ passed_of last (b ∷ bs) =
     passed_append (given_in (nat_lt last b.number) b) (given_of (larger (nat_lt last b.number) b.number last) bs) b.messages (messages_of bs)
     (passed_in (nat_lt last b.number) b) (passed_of (larger (nat_lt last b.number) b.number last) bs)
 
+-- a worker passes on what its lane gave
+pub passed_on : (g : Origin) (o : FifoOptions) (T : List Given) (h : History) (got : List Msg) (numbers : List (ℕ × ℕ)) → Stretches g o T h got numbers → PassedOn T got
+passed_on g o T h got numbers k =
+    subst (λ (X : List Given). PassedOn X got) (sym k.given_is)
+    (subst (PassedOn (given_of 0 k.blocks ++ map sent k.after)) (sym k.got_is) (passed_append (given_of 0 k.blocks) (map sent k.after) (messages_of k.blocks) k.after (passed_of 0 k.blocks) (passed_sent k.after)))
+
+-- what it flushes by one number is one stretch
+pub stretch_of : (g : Origin) (o : FifoOptions) (T : List Given) (h : History) (got : List Msg) (numbers : List (ℕ × ℕ)) (i v : ℕ) → Stretches g o T h got numbers → SweptAt T i v
+    → (1 ≤ v) × SweptStretch o.queue_size numbers v T
+stretch_of g o T h got numbers i v k s =
+    let there : SweptAt (whole 0 k.blocks k.after) i v = subst (λ (X : List Given). SweptAt X i v) k.given_is s in
+    let f = stretch_from k.after o.queue_size 0 0 k.blocks i v k.sized there in
+    let high = swept_above k.after 0 k.blocks i v there in
+    let z : 0 + length f.front ≡ length f.front = omega arith in (
+      omega (arith, high),
+      record {
+        front = f.front;
+        swept = f.swept_part;
+        back = f.back;
+        split = k.given_is ∙ f.split;
+        few = f.few;
+        before = f.before;
+        all = f.all;
+        only = f.only;
+        behind = f.behind;
+        place = f.place;
+        seen = subst (λ (ns : List (ℕ × ℕ)). slice_get ns f.place ≡ Some (v, length f.front)) (sym k.numbers_are) (f.seen ∙ ap (λ (c : ℕ). Some (v, c)) z);
+      },
+    )
+
 pub workers_pass_on : WorkersPassOn
-workers_pass_on g o T h got numbers some k = (
-  subst (λ (X : List Given). PassedOn X got) (sym k.given_is)
-      (subst (PassedOn (given_of 0 k.blocks ++ map sent k.after)) (sym k.got_is) (passed_append (given_of 0 k.blocks) (map sent k.after) (messages_of k.blocks) k.after (passed_of 0 k.blocks) (passed_sent k.after))),
-  λ i v s.
-      (let there : SweptAt (whole 0 k.blocks k.after) i v = subst (λ (X : List Given). SweptAt X i v) k.given_is s in
-      let f = stretch_from k.after o.queue_size 0 0 k.blocks i v k.sized there in
-      let high = swept_above k.after 0 k.blocks i v there in
-      let z : 0 + length f.front ≡ length f.front = omega arith in (
-        omega (arith, high),
-        record {
-          front = f.front;
-          swept = f.swept_part;
-          back = f.back;
-          split = k.given_is ∙ f.split;
-          few = f.few;
-          before = f.before;
-          all = f.all;
-          only = f.only;
-          behind = f.behind;
-          place = f.place;
-          seen = subst (λ (ns : List (ℕ × ℕ)). slice_get ns f.place ≡ Some (v, length f.front)) (sym k.numbers_are) (f.seen ∙ ap (λ (c : ℕ). Some (v, c)) z);
-        },
-      )),
-)
+workers_pass_on g o T h got numbers some k = (passed_on g o T h got numbers k, λ i v s. stretch_of g o T h got numbers i v k s)

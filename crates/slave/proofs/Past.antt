@@ -1,7 +1,8 @@
 -- What came before a fate, in a history of packets that came one after another.
-use Rattle.std.proofs.Common.{◌≡◌, ℕ, zero, suc, ◌+◌, ◌≤◌, ◌<◌, ◌⊎◌, inl, inr, Bool, true, false, ◌&&◌, ◌||◌, ◌==◌, if◌then◌else◌, List, [], ◌∷◌, ◌++◌, length, slice_get, Option, Some, None, ℤ, refl, ap, sym, ◌∙◌, arith, length-append}
+use Rattle.std.proofs.Common.{◌≡◌, ℕ, zero, suc, ◌+◌, ◌≤◌, ◌<◌, ◌⊎◌, inl, inr, Bool, true, false, ◌&&◌, ◌==◌, if◌then◌else◌, List, [], ◌∷◌, ◌++◌, length, slice_get, Option, Some, None, ℤ, refl, ap, sym, ◌∙◌, arith, length-append}
 use Rattle.std.proofs.lemmas.Bool.Decides.{nat_tests}
 use Rattle.std.proofs.Math.Nat.{eq-or-lt_of_le}
+use Rattle.std.proofs.lemmas.Bool.{or_cases, or_right, and_parts}
 use Rattle.fifo_core.specs.declared.types.FifoOptions.{FifoOptions}
 use Rattle.fifo_core.specs.declared.types.PacketFacts.{PacketFacts}
 use Rattle.fifo_core.specs.declared.types.Answer.{Answer}
@@ -84,25 +85,13 @@ rises_within (Fated j u ∷ h) n i f r x = elim (has_split (fates_of h) (j, u) i
   | inr b ↦ omega (arith, b.0, r.0)
 ]
 
-or_cases : (a b : Bool) → (a || b) ≡ true → (a ≡ true) ⊎ (b ≡ true)
-or_cases true b e = inl refl
-or_cases false b e = inr e
-
-or_right : (a b : Bool) → b ≡ true → (a || b) ≡ true
-or_right true b e = refl
-or_right false b e = e
-
-pub both : (a b : Bool) → (a && b) ≡ true → (a ≡ true) × (b ≡ true)
-both true b e = (refl, e)
-both false b e = absurd (cc e)
-
 pub same_number : (i j : ℕ) → (i == j) ≡ true → i ≡ j
 same_number i j e = grind (arith, nat_tests)
 
 pub number_same : (i j : ℕ) → i ≡ j → (i == j) ≡ true
 number_same i j e = grind (arith, nat_tests)
 
-number_differs : (i j : ℕ) → i < j → (j == i) ≡ false
+pub number_differs : (i j : ℕ) → i < j → (j == i) ≡ false
 number_differs i j lt = grind (arith, nat_tests)
 
 written_fate : (s : ℕ) (f : Fate) → is_written_fate s f ≡ true → f ≡ fate.Written s
@@ -121,7 +110,7 @@ written_has (Begun a ∷ h) i s e = written_has h i s e
 written_has (Tried t j facts a ∷ h) i s e = written_has h i s e
 written_has (Want ∷ h) i s e = written_has h i s e
 written_has (Fated j f ∷ h) i s e = elim (or_cases ((j == i) && is_written_fate s f) (is_written h i s) e) [
-  | inl a ↦ (let b = both (j == i) (is_written_fate s f) a in
+  | inl a ↦ (let b = and_parts (j == i) (is_written_fate s f) a in
       let x : j ≡ i = same_number j i b.0 in
       let y : f ≡ fate.Written s = written_fate s f b.1 in
       rw (x, y) (has_end (fates_of h) i (fate.Written s)))

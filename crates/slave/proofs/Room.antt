@@ -1,5 +1,6 @@
 -- Room for a run is refused only where memory was wanted for good, or a fault came.
 use Rattle.std.proofs.Common.{◌≡◌, ℕ, suc, ◌+◌, inl, inr, Bool, true, false, ◌⊎◌, List, [], ◌∷◌, ◌++◌, length, map, refl, ap, sym, ◌∙◌, subst, arith}
+use Rattle.std.proofs.lemmas.List.{length-map}
 use Rattle.fifo_core.specs.declared.types.FifoOptions.{FifoOptions}
 use Rattle.fifo_core.specs.declared.types.PacketFacts.{PacketFacts}
 use Rattle.fifo_core.specs.declared.types.Answer.TheVariants as answer
@@ -37,10 +38,6 @@ all_done (Want ∷ h) t u = absurd (cc u)
 pub turns_come : (out : Origin) (n : ℕ) (L : List Packet) → turns_from out n L ≡ all_come n (map (facts_of out) L)
 turns_come out n [] = refl
 turns_come out n (p ∷ L) = ap (λ (ts : List Turn). Comes n (facts_of out p) ∷ ts) (turns_come out (n + 1) L)
-
-pub same_length : {A B : Type 0} (f : A → B) (xs : List A) → length (map f xs) ≡ length xs
-same_length f [] = refl
-same_length f (x ∷ xs) = ap suc (same_length f xs)
 
 -- the last of the packets that were all written
 last_written : (n : ℕ) (x : PacketFacts) (xs : List PacketFacts) → (front : List (ℕ × Fate)) × (all_written n (x ∷ xs) ≡ front ++ (n + length xs, fate.Written 0) ∷ [])
@@ -83,7 +80,7 @@ refused_room {out = out} {o = o} {L = L} p i facts f b v w k m refused at same i
         let told : NotesTell h [] = rw none at k.stands.table.notes in
         let clean = all_done h told u in
         let whole = whole_run o (map (facts_of out) L) h (subst (λ (ts : List Turn). Follows o ts h) (turns_come out 0 L) k.follows) clean in
-        let size : length (map (facts_of out) L) ≡ length L = same_length (facts_of out) L in
+        let size : length (map (facts_of out) L) ≡ length L = length-map L (facts_of out) in
         let act = rw (size, at) at (writes o (length (map (facts_of out) L)) h facts whole.0) in
         let session : trying o h ≡ 0 = rw (whole.0.live, whole.0.session) refl in
         let written : f ≡ fate.Written 0 = is ∙ ap (expected_in o h) act ∙ ap fate.Written session in

@@ -1,13 +1,11 @@
 -- Packets of tests.
-use Rattle.std.proofs.Common.{◌≡◌, subst, sym}
-use Rattle.rmx_media.specs.declared.packet.Format.{Format}
+use Rattle.std.proofs.Common.{◌≡◌}
 use Rattle.rmx_media.specs.declared.packet.Packet.{Packet}
 use Rattle.rmx_media.specs.declared.streams.Kind.{Kind}
 use Rattle.rmx_media.specs.declared.streams.Kind.TheVariants.{Video, Audio}
 use Rattle.rmx_media.specs.Fits.{Fits}
 use Rattle.slave.specs.Origin.{Origin}
 use Rattle.slave.specs.Sample.{format_for}
-use Rattle.slave.specs.Segments.{file_format}
 use Rattle.slave.specs.Table.{Takes}
 
 -- outputs of one file take packets that fit their format

@@ -1,6 +1,7 @@
 -- Faults noted at the same calls give the same fates and sessions.
-use Rattle.std.proofs.Common.{◌≡◌, ◌≢◌, ℕ, zero, suc, ◌+◌, ◌≤◌, ◌<◌, ◌⊎◌, inl, inr, Bool, true, false, not, ◌&&◌, ◌||◌, ◌==◌, if◌then◌else◌, List, [], ◌∷◌, ◌++◌, length, map, filter, filter_map, Option, Some, None, is_some, refl, ap, sym, ◌∙◌, subst, arith, length-append}
+use Rattle.std.proofs.Common.{◌≡◌, ◌≢◌, ℕ, suc, ◌+◌, ◌≤◌, ◌<◌, ◌⊎◌, inl, inr, Bool, true, false, not, ◌&&◌, ◌||◌, ◌==◌, if◌then◌else◌, List, [], ◌∷◌, ◌++◌, length, map, filter_map, Option, Some, None, is_some, refl, ap, sym, ◌∙◌, subst, arith, length-append}
 use Rattle.std.proofs.lemmas.Bool.Decides.{nat_tests}
+use Rattle.std.proofs.Math.Bool.{or-false, or-true, and-false}
 use Rattle.fifo_core.specs.declared.types.FifoOptions.{FifoOptions}
 use Rattle.fifo_core.specs.declared.types.PacketFacts.{PacketFacts}
 use Rattle.fifo_core.specs.declared.types.Answer.{Answer}
@@ -11,10 +12,9 @@ use Rattle.fifo_core.specs.declared.types.After.{After}
 use Rattle.fifo_core.specs.declared.types.After.TheVariants as after
 use Rattle.fifo_core.specs.declared.types.Fate.{Fate}
 use Rattle.fifo_core.specs.declared.types.Fate.TheVariants as fate
-use Rattle.fifo_core.specs.declared.types.Mode.{Mode}
 use Rattle.fifo_core.specs.declared.types.Mode.TheVariants.{Live, Broken, Dead}
-use Rattle.fifo_core.specs.History.{Begun, Tried, Fated, Want, History, wanted, mode_of, mode_is_live, session_of, trying, action_of, after_of, after_answer_of, streak}
-use Rattle.fifo_core.specs.Follows.{Turn, Comes, Flushes, MayWant, Made, Turned, Acted, FirstTry, Answered, SecondTry, Settled, Runs, Follows}
+use Rattle.fifo_core.specs.History.{Begun, Tried, Fated, Want, History, wanted, mode_of, mode_is_live, session_of, trying, after_of, after_answer_of, streak}
+use Rattle.fifo_core.specs.Follows.{Turn, Comes, Flushes, MayWant, Turned, Acted, FirstTry, Answered, Settled, Runs, Follows}
 use Rattle.fifo_core.specs.Causes.{InTurn, turn_index}
 use Rattle.fifo_core.specs.Laws.{AnswersAs}
 use Rattle.fifo_core.proofs.Before.{is_determined}
@@ -22,20 +22,18 @@ use Rattle.slave.specs.declared.records.FaultAt.{FaultAt}
 use Rattle.slave.specs.declared.records.FaultAt.TheVariants.{Begin, Put, End}
 use Rattle.slave.specs.declared.records.FaultNote.{FaultNote}
 use Rattle.slave.specs.declared.records.SessionNote.{SessionNote}
-use Rattle.fifo_core.specs.declared.types.EndState.{EndState}
 use Rattle.fifo_core.specs.declared.types.EndState.TheVariants as ends
 use Rattle.fifo_core.specs.History.{fates_of, is_live, end_of}
 use Rattle.fifo_core.specs.Follows.{Follows}
 use Rattle.lane.specs.Sides.{ReceiptSide}
-use Rattle.lane.specs.declared.msg.Msg.{Msg}
 use Rattle.rmx_edge.specs.Shelf.{ShelfState}
 use Rattle.rmx_media.specs.declared.packet.Packet.{Packet}
 use Rattle.slave.specs.Origin.{Origin, facts_of}
 use Rattle.slave.specs.Given.{Given, Sent, Swept, Gives, turn_of, sent_from}
 use Rattle.slave.specs.Runs.{expand}
 use Rattle.slave.specs.Table.{NotesTell, Outcome, Open, NotCalled, NotBegun, PutFailed, EndFailed, Closed, Row, AllRows, LeftBy, RowHolds, IsAt, Numbered, StandsAt, row_note, row_fault, turns_from}
-use Rattle.slave.specs.End.{EndView, Ended, EndedAll, EndNotes, EndsAs}
-use Rattle.slave.specs.LaneAccounts.{is_named, unrefused, messages_from, PassedOn, Dealt}
+use Rattle.slave.specs.End.{EndView, Ended, EndNotes, EndsAs}
+use Rattle.slave.specs.LaneAccounts.{unrefused, messages_from, PassedOn}
 use Rattle.slave.specs.AccountsAll.{SweptAt}
 use Rattle.slave.specs.Schedule.{place_of, EndsUnrefused, EndsBlocking, FaultsDecide}
 use Rattle.slave.proofs.Direct.{sent_turns}
@@ -215,24 +213,12 @@ or_assoc : (a b c : Bool) → (a || (b || c)) ≡ ((a || b) || c)
 or_assoc true b c = refl
 or_assoc false b c = refl
 
-or_false : (b : Bool) → (b || false) ≡ b
-or_false true = refl
-or_false false = refl
-
-or_true : (b : Bool) → (b || true) ≡ true
-or_true true = refl
-or_true false = refl
-
-and_false : (b : Bool) → (b && false) ≡ false
-and_false true = refl
-and_false false = refl
-
 hits_push : (xs : List (ℕ × FaultAt)) (x : ℕ × FaultAt) (s i : ℕ) → hits (xs ++ x ∷ []) s i ≡ (hits xs s i || ((x.0 == s) && at_hits x.1 i))
-hits_push [] x s i = or_false ((x.0 == s) && at_hits x.1 i)
+hits_push [] x s i = or-false ((x.0 == s) && at_hits x.1 i)
 hits_push (y ∷ xs) x s i = rw (hits_push xs x s i) (or_assoc ((y.0 == s) && at_hits y.1 i) (hits xs s i) ((x.0 == s) && at_hits x.1 i))
 
 first_push : (xs : List (ℕ × FaultAt)) (x : ℕ × FaultAt) → hits_first (xs ++ x ∷ []) ≡ (hits_first xs || ((x.0 == 0) && is_begin x.1))
-first_push [] x = or_false ((x.0 == 0) && is_begin x.1)
+first_push [] x = or-false ((x.0 == 0) && is_begin x.1)
 first_push (y ∷ xs) x = rw (first_push xs x) (or_assoc ((y.0 == 0) && is_begin y.1) (hits_first xs) ((x.0 == 0) && is_begin x.1))
 
 places_push : (ns : List FaultNote) (n : FaultNote) → map place_of (ns ++ n ∷ []) ≡ map place_of ns ++ place_of n ∷ []
@@ -297,11 +283,11 @@ older_same s i current n ns e at t j k =
     let push : hits (map place_of (ns ++ n ∷ [])) t j ≡ (hits (map place_of ns) t j || ((n.session == t) && at_hits n.at j)) =
     ap (λ xs. hits xs t j) (places_push ns n) ∙ hits_push (map place_of ns) (place_of n) t j in
     let none : ((n.session == t) && at_hits n.at j) ≡ false = by k at in
-    ap fault_if (push ∙ (rw none (or_false (hits (map place_of ns) t j))))
+    ap fault_if (push ∙ (rw none (or-false (hits (map place_of ns) t j))))
   where
     by : Precedes s i current t j → (n.at ≡ Put i) ⊎ ((n.at ≡ Begin) × (s ≢ current)) → ((n.session == t) && at_hits n.at j) ≡ false
     by (inl lt) at = rw (e, later_number s t lt) refl
-    by (inr x) (inl put) = rw (put, later_number i j x.1) (and_false (n.session == t))
+    by (inr x) (inl put) = rw (put, later_number i j x.1) (and-false (n.session == t))
     by (inr x) (inr begin) = absurd (begin.1 x.0)
 
 first_same : (o : FifoOptions) (h : History) (s i : ℕ) (n : FaultNote) (ns : List FaultNote) → s ≡ trying o h → n.session ≡ s
@@ -310,10 +296,10 @@ first_same o h s i n ns due e at =
     let push : hits_first (map place_of (ns ++ n ∷ [])) ≡ (hits_first (map place_of ns) || ((n.session == 0) && is_begin n.at)) =
     ap hits_first (places_push ns n) ∙ first_push (map place_of ns) (place_of n) in
     let none : ((n.session == 0) && is_begin n.at) ≡ false = by at in
-    ap fault_if (push ∙ (rw none (or_false (hits_first (map place_of ns)))))
+    ap fault_if (push ∙ (rw none (or-false (hits_first (map place_of ns)))))
   where
     by : (n.at ≡ Put i) ⊎ ((n.at ≡ Begin) × (s ≢ session_of h)) → ((n.session == 0) && is_begin n.at) ≡ false
-    by (inl put) = rw put (and_false (n.session == 0))
+    by (inl put) = rw put (and-false (n.session == 0))
     by (inr begin) = elim (trying_is o h) [
       | inl same ↦ absurd (begin.1 (due ∙ same))
       | inr next ↦ rw (e, due, next, not_zero (session_of h)) refl
@@ -321,7 +307,7 @@ first_same o h s i n ns due e at =
 
 hits_here : (s i : ℕ) (n : FaultNote) (ns : List FaultNote) → n.session ≡ s → at_hits n.at i ≡ true → hits (map place_of (ns ++ n ∷ [])) s i ≡ true
 hits_here s i n ns e hit =
-    ap (λ xs. hits xs s i) (places_push ns n) ∙ hits_push (map place_of ns) (place_of n) s i ∙ (rw (e, same_number s, hit) (or_true (hits (map place_of ns) s i)))
+    ap (λ xs. hits xs s i) (places_push ns n) ∙ hits_push (map place_of ns) (place_of n) s i ∙ (rw (e, same_number s, hit) (or-true (hits (map place_of ns) s i)))
 
 put_hits : (i : ℕ) (at : FaultAt) (p : Type 0) → (at ≡ Put i) ⊎ ((at ≡ Begin) × p) → at_hits at i ≡ true
 put_hits i at p (inl e) = rw e (same_number i)
@@ -364,10 +350,10 @@ end_tells o h (Some answer.Fault) ns q w k =
     let n = k.1 in
     let same : (t j : ℕ) → outside (map place_of (front ++ n ∷ [])) t j ≡ outside (map place_of front) t j =
     λ t j. ap fault_if (ap (λ xs. hits xs t j) (places_push front n) ∙ hits_push (map place_of front) (place_of n) t j
-    ∙ (rw (k.4, and_false (n.session == t)) (or_false (hits (map place_of front) t j)))) in
+    ∙ (rw (k.4, and-false (n.session == t)) (or-false (hits (map place_of front) t j)))) in
     let first : fault_if (hits_first (map place_of (front ++ n ∷ []))) ≡ fault_if (hits_first (map place_of front)) =
     ap fault_if (ap hits_first (places_push front n) ∙ first_push (map place_of front) (place_of n)
-    ∙ (rw (k.4, and_false (n.session == 0)) (or_false (hits_first (map place_of front))))) in
+    ∙ (rw (k.4, and-false (n.session == 0)) (or-false (hits_first (map place_of front))))) in
     rw k.2 (answers_same (outside (map place_of front)) (outside (map place_of (front ++ n ∷ []))) _ _ h first (tries_all _ same h) (tells o h front q w k.5))
 
 -- how many faults were noted

@@ -1,5 +1,5 @@
 -- A turn ends with the fate of its packet.
-use Rattle.std.proofs.Common.{◌≡◌, ℕ, ◌⊎◌, inl, inr, List, [], ◌∷◌}
+use Rattle.std.proofs.Common.{ℕ, inl, inr, List, [], ◌∷◌}
 use Rattle.fifo_core.specs.declared.types.FifoOptions.{FifoOptions}
 use Rattle.fifo_core.specs.declared.types.PacketFacts.{PacketFacts}
 use Rattle.fifo_core.specs.declared.types.Answer.{Answer}
@@ -7,7 +7,7 @@ use Rattle.fifo_core.specs.declared.types.After.{After}
 use Rattle.fifo_core.specs.declared.types.After.TheVariants as after
 use Rattle.fifo_core.specs.declared.types.Action.{Action}
 use Rattle.fifo_core.specs.declared.types.Action.TheVariants as action
-use Rattle.fifo_core.specs.History.{Begun, Tried, History, trying, after_of, action_of}
+use Rattle.fifo_core.specs.History.{Begun, History, after_of, action_of}
 use Rattle.fifo_core.specs.Follows.{Turn, Comes, Flushes, MayWant, Settled, Answered, FirstTry, Acted, Turned, Runs, Follows}
 use Rattle.fifo_core.specs.Causes.{OnlyTried}
 

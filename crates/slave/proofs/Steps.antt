@@ -26,7 +26,7 @@ use Rattle.slave.specs.Runs.{expand, pushed}
 use Rattle.slave.specs.Given.{Given, Gives, IsGapless}
 use Rattle.slave.specs.Job.{JobView, Writer, WriterAfter, SoundStays, note_at, number_of, Opens, Puts, OpensAndPuts, ShelfWants, ListWants}
 use Rattle.slave.proofs.CallsLemmas.{done_joined, numbers_after, number_then, first_puts, no_puts, sound_then}
-use Rattle.slave.specs.Table.{Outcome, Open, NotCalled, NotBegun, PutFailed, EndFailed, Closed, WantedAt, Unended, Row, calls_of, LeftBy, RowHolds, AllRows, Chain, GoesOnFrom, Numbers, row_note, row_fault, row_packets, if_given, written_among, covered, NotesTell, Table, ahead_of, Numbered}
+use Rattle.slave.specs.Table.{Outcome, Open, NotCalled, NotBegun, PutFailed, EndFailed, Closed, WantedAt, Unended, Row, calls_of, LeftBy, RowHolds, AllRows, Chain, GoesOnFrom, row_note, row_fault, row_packets, if_given, written_among, covered, NotesTell, Table, ahead_of, Numbered}
 use Rattle.slave.proofs.Rows.{map_push, faults_push_none, faults_push_some, packets_push, puts_push, chain_next, chain_last, chain_end, segments_next, segments_last, segments_end, rows_push, rows_front, rows_last, rows_other, gives_more, gapless_front, written_more, written_push, open_no_fault, numbered_push, numbered_last, numbered_front}
 
 -- a live output tries the session that is open

@@ -1,5 +1,5 @@
 -- Stretches of flushed packets, among what was given and among the fates.
-use Rattle.std.proofs.Common.{◌≡◌, ℕ, suc, ◌+◌, ◌≤◌, ◌<◌, ◌⊎◌, inl, inr, Bool, true, false, not, List, [], ◌∷◌, ◌++◌, length, map, slice_get, Some, refl, ap, sym, ◌∙◌, subst, arith, append_assoc, length-append}
+use Rattle.std.proofs.Common.{◌≡◌, ℕ, suc, ◌+◌, ◌≤◌, ◌<◌, ◌⊎◌, inl, inr, Bool, true, false, not, List, [], ◌∷◌, ◌++◌, length, map, slice_get, Some, refl, ap, sym, ◌∙◌, subst, arith, append_assoc}
 use Rattle.std.specs.Prelude.{filter}
 use Rattle.std.proofs.lemmas.List.{append-nil}
 use Rattle.std.proofs.lemmas.List.Elements.{filter-append}
@@ -15,7 +15,7 @@ use Rattle.slave.specs.Table.{covered, indices}
 use Rattle.slave.specs.Accounts.{Has}
 use Rattle.slave.specs.AccountsAll.{GivesAt, SweptAt, MayFlush}
 use Rattle.slave.specs.LaneAccounts.{is_named, unrefused, Stretch, SweptStretch}
-use Rattle.slave.proofs.Past.{has_split, has_front, rises_within}
+use Rattle.slave.proofs.Past.{has_split, has_front}
 use Rattle.slave.proofs.Covers.{Above, Climbs, above_front, above_back, above_has, above_before, climbs_low, has_left, has_right, has_cases, fates_covered, gap_has, has_index}
 use Rattle.slave.proofs.Entering.{none_left}
 
@@ -56,11 +56,6 @@ unrefused_fates rs (Fated i f ∷ h) n a r gaps kept =
     ∙ ap (λ (ys : List (ℕ × Fate)). fates_of h ++ ys) last
 
 -- what was given in two parts
-at_front : (A B : List Given) (i : ℕ) → GivesAt A i → GivesAt (A ++ B) i
-at_front [] B i g = absurd g
-at_front (t ∷ A) B i (inl e) = inl e
-at_front (t ∷ A) B i (inr g) = inr (at_front A B i g)
-
 at_back : (A B : List Given) (i : ℕ) → GivesAt B i → GivesAt (A ++ B) i
 at_back [] B i g = g
 at_back (t ∷ A) B i g = inr (at_back A B i g)

@@ -75,9 +75,6 @@ are_of {g} {o} {T} {h} {got} {numbers} s = ap (λ ts. map index_of ts) s.given_i
     ∙ (are_two (given_of 0 s.blocks) (map sent s.after) (messages_of s.blocks) s.after (are_given 0 s.blocks) (are_sent s.after)
     ∙ sym (ap (λ ms. map (λ (m : Msg). m.index) ms) s.got_is))
 
-pub are_more : (T : List Given) (got : List Msg) (t : Given) (m : Msg) → AreOf T got → index_of t ≡ m.index → AreOf (T ++ t ∷ []) (got ++ m ∷ [])
-are_more T got t m a e = are_two T (t ∷ []) got (m ∷ []) a (ap (λ i. i ∷ []) e)
-
 -- a message that is above those got before may come next
 end_below : (n : ℕ) (T : List Given) (got : List Msg) (i : ℕ) → n ≤ i → AreOf T got → All (λ (y : Msg). y.index < i) got → end_from n T ≤ i
 end_below n [] got i le e a = le

@@ -8,7 +8,7 @@ use Rattle.fifo_core.specs.declared.types.Answer.{Answer}
 use Rattle.fifo_core.specs.declared.types.Answer.TheVariants as answer
 use Rattle.fifo_core.specs.declared.types.Mode.{Mode}
 use Rattle.fifo_core.specs.declared.types.Mode.TheVariants.{Live, Broken, Dead}
-use Rattle.fifo_core.specs.History.{Tried, Fated, Want, History, mode_of, mode_is_live, notes, trying, fates_of, wanted, after_of, session_of}
+use Rattle.fifo_core.specs.History.{Tried, Fated, Want, History, mode_of, mode_is_live, notes, trying, fates_of, wanted, after_of, session_of, answered_done, answered_fault}
 use Rattle.rmx_edge.specs.Shelf.{ShelfState, ShelfCall}
 use Rattle.rmx_media.specs.declared.packet.Packet.{Packet}
 use Rattle.slave.specs.Origin.{Origin}
@@ -21,7 +21,7 @@ use Rattle.slave.specs.Given.{Given, Sent, Swept, index_of, turn_of, end_from, I
 use Rattle.slave.specs.Runs.{Joins, AreInOrder}
 use Rattle.slave.specs.Segments.{asks_list}
 use Rattle.slave.proofs.Lists.{joins_later, order_later}
-use Rattle.slave.specs.Job.{JobView, KitOf, Writer, WriterAfter, Calls, Puts, OpensAndPuts, Settles, is_done}
+use Rattle.slave.specs.Job.{JobView, KitOf, Writer, WriterAfter, Calls, Puts, OpensAndPuts, Settles}
 use Rattle.slave.specs.Table.{if_written, if_given, indices, Table, ahead_of}
 use Rattle.slave.proofs.Rows.{map_push, gives_last, end_push, indices_push}
 use Rattle.fifo_core.specs.declared.types.After.{After}
@@ -34,7 +34,7 @@ use Rattle.fifo_core.specs.State.{Shows, next_of}
 use Rattle.fifo_core.specs.Follows.{Turn, MayWant, Turned, Made, Runs, Follows}
 use Rattle.slave.specs.Origin.{facts_of}
 use Rattle.slave.specs.Table.{HasPlaces, Stands, Holds, Tells, Ends, Concludes, Primed, PrimedFor, Acts, Sweeps, KeepsAll, GrowsAll}
-use Rattle.slave.specs.Job.{is_fault, MakesRoom}
+use Rattle.slave.specs.Job.{MakesRoom}
 use Rattle.slave.proofs.Later.{turn_adds, turn_dead, fated_adds, fated_dead}
 use Rattle.slave.proofs.Steps.{widened, recorded, want_before, want_now, put_made, opened_put, fault_closes}
 
@@ -46,7 +46,7 @@ told_fates h g (inl e) = rw e refl
 told_fates h g (inr e) = rw e refl
 
 told_table : {out : Origin} {o : FifoOptions} {T : List Given} {ahead : List (ℕ × Packet)} {shelf : ShelfState} {writer : Writer} {runs : List Run} {sessions : List SessionNote} {faults : List FaultNote}
-    (h g : History) (i : ℕ) (facts : PacketFacts) (a : Answer) → MayWant h g → (is_fault a ≡ false → g ≡ h)
+    (h g : History) (i : ℕ) (facts : PacketFacts) (a : Answer) → MayWant h g → (answered_fault a ≡ false → g ≡ h)
     → Table out o T (Tried (trying o h) i facts a ∷ h) ahead shelf writer runs sessions faults → Table out o T (Tried (trying o g) i facts a ∷ g) ahead shelf writer runs sessions faults
 told_table {out = out} {o = o} {T = T} {ahead = ahead} {shelf = shelf} {writer = writer} {runs = runs} {sessions = sessions} {faults = faults} h g i facts a (inl e) same t =
     subst (λ (x : History). Table out o T (Tried (trying o x) i facts a ∷ x) ahead shelf writer runs sessions faults) (sym e) t
@@ -81,7 +81,7 @@ want_fate false f e = same_fate e
 
 -- the fate says what was written
 ahead_is : (o : FifoOptions) (h g : History) (i : ℕ) (p : Packet) (facts : PacketFacts) (a : Answer) (f : Fate) → after_of o g i facts a ≡ after.Settle f
-    → (is_fault a ≡ false → g ≡ h) → wanted h ≡ false → ahead_of (trying o h) p a ≡ if_written p f
+    → (answered_fault a ≡ false → g ≡ h) → wanted h ≡ false → ahead_of (trying o h) p a ≡ if_written p f
 ahead_is o h g i p facts answer.Done f e same u =
     let ug : wanted g ≡ false = rw (same refl) u in
     rw (sym (done_fate (wanted g) (fate.Written (trying o g)) f ug e), same refl) refl
@@ -96,7 +96,7 @@ joined_some rs (q ∷ front) r e z = let x : [] ≡ q ∷ (front ++ r ∷ []) = 
 -- which places are left after a turn
 settled_places : {out : Origin} {o : FifoOptions} {T : List Given} {i : ℕ} {p : Packet} {h : History} (a : Answer) (v w x : JobView) (r : After) (f : Fate) (g : History)
     → Holds out o T i p h a v → Tells o h i (facts_of out p) a v r w → Settles i f w x
-    → MayWant h g → (is_fault a ≡ false → g ≡ h) → (is_fault a ≡ true → g ≡ h → (2 ≤ w.run_places) × (1 ≤ w.session_places) × (1 ≤ w.fault_places))
+    → MayWant h g → (answered_fault a ≡ false → g ≡ h) → (answered_fault a ≡ true → g ≡ h → (2 ≤ w.run_places) × (1 ≤ w.session_places) × (1 ≤ w.fault_places))
     → after_of o g i (facts_of out p) a ≡ after.Settle f → next_of x.fifo ≡ i + 1
     → HasPlaces o (Fated i f ∷ Tried (trying o g) i (facts_of out p) a ∷ g) x
 settled_places {out = out} {o = o} {T = T} {i = i} {p = p} {h = h} answer.Done v w x r f g d k s may same granted is next =
@@ -178,7 +178,7 @@ again_settled : (w : Bool) (x : Fate) → (if w then after.Settle fate.NoMemory 
 again_settled true x e = cc e
 again_settled false x e = cc e
 
-again_fault : (o : FifoOptions) (h : History) (i : ℕ) (facts : PacketFacts) (a : Answer) → after_of o h i facts a ≡ after.Again → (is_fault a ≡ true) × (wanted h ≡ false)
+again_fault : (o : FifoOptions) (h : History) (i : ℕ) (facts : PacketFacts) (a : Answer) → after_of o h i facts a ≡ after.Again → (answered_fault a ≡ true) × (wanted h ≡ false)
 again_fault o h i facts answer.Done e = absurd (again_settled (wanted h) (fate.Written (trying o h)) e)
 again_fault o h i facts answer.Fault e =
     (refl, again_bools (wanted h) (mode_is_live (mode_of o h) && o.attempt_recovery && (o.wait_ms == 0)) (needs_restart o (Tried (trying o h) i facts answer.Fault ∷ h) i facts) (notes h) e)
@@ -188,7 +188,7 @@ free_told : (h g : History) → MayWant h g → wanted g ≡ false → g ≡ h
 free_told h g (inl e) u = e
 free_told h g (inr e) u = let t : true ≡ false = rw e at u in absurd (cc t)
 
-is_fault_only : (a : Answer) → is_fault a ≡ true → a ≡ answer.Fault
+is_fault_only : (a : Answer) → answered_fault a ≡ true → a ≡ answer.Fault
 is_fault_only answer.Done e = absurd (cc e)
 is_fault_only answer.Fault e = refl
 is_fault_only answer.NoMemory e = absurd (cc e)
@@ -240,7 +240,7 @@ pub retry_idle : {out : Origin} {o : FifoOptions} {T : List Given} {i : ℕ} {p 
 retry_idle w t = t.table.writing t.unwanted ∙ t.closed_now
 
 opened_same : {out : Origin} {p : Packet} {i : ℕ} (b : Answer) (w x : JobView) → OpensAndPuts out p (Put i) w b x
-    → (x.fifo ≡ w.fifo) × (x.runs ≡ w.runs) × (x.run_places ≡ w.run_places) × (is_done b ≡ true → x.fault_places ≡ w.fault_places) × KitOf out x.kit
+    → (x.fifo ≡ w.fifo) × (x.runs ≡ w.runs) × (x.run_places ≡ w.run_places) × (answered_done b ≡ true → x.fault_places ≡ w.fault_places) × KitOf out x.kit
 opened_same answer.Done w x (inl m) =
     (m.2.calls.fifo ∙ m.1.fifo, m.2.calls.runs ∙ m.1.runs, m.2.calls.run_places ∙ m.1.run_places, λ e. m.2.calls.made.3 ∙ m.1.made.3, m.2.calls.kit)
 opened_same answer.Fault w x (inl m) = (m.2.calls.fifo ∙ m.1.fifo, m.2.calls.runs ∙ m.1.runs, m.2.calls.run_places ∙ m.1.run_places, λ e. absurd (cc e), m.2.calls.kit)
@@ -286,7 +286,7 @@ pub record Writes (out : Origin) (o : FifoOptions) (T : List Given) (i : ℕ) (p
   pub fault_places : 1 ≤ v.fault_places
   pub room : Joins v.runs i (fate.Written (trying o h)) ⊎ (2 ≤ v.run_places)
 
-put_faults : {out : Origin} {calls : List ShelfCall} {i : ℕ} (a : Answer) (v w : JobView) → Calls out calls (Put i) v a w → is_done a ≡ true → w.fault_places ≡ v.fault_places
+put_faults : {out : Origin} {calls : List ShelfCall} {i : ℕ} (a : Answer) (v w : JobView) → Calls out calls (Put i) v a w → answered_done a ≡ true → w.fault_places ≡ v.fault_places
 put_faults answer.Done v w c e = c.made.3
 put_faults answer.Fault v w c e = absurd (cc e)
 put_faults answer.NoMemory v w c e = absurd (cc e)

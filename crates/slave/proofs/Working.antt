@@ -11,6 +11,7 @@ use Rattle.lane.specs.declared.msg.Msg.{Msg}
 use Rattle.lane.specs.declared.msg.Purpose.{Purpose}
 use Rattle.lane.specs.Past.{Past}
 use Rattle.lane.specs.Told.{TakerNow, empties}
+use Rattle.lane.specs.Ring.{one_if}
 use Rattle.slave.specs.Origin.{Origin}
 use Rattle.slave.specs.Given.{Given, end_from}
 use Rattle.slave.specs.Job.{JobView}
@@ -18,7 +19,7 @@ use Rattle.rmx_media.specs.Fits.{Fits}
 use Rattle.slave.specs.Table.{Keeps, KeepsAll, GrowsAll, Takes}
 use Rattle.slave.specs.End.{EndView, EndedAllBy}
 use Rattle.slave.specs.Stretches.{Block, sent, swept, larger, last_of, Stretches, AreOf, Flushed}
-use Rattle.slave.specs.Worked.{WorkedFor, is_fail, fails, one_if, add_late, got_late}
+use Rattle.slave.specs.Worked.{WorkedFor, is_fail, fails, add_late, got_late}
 use Rattle.slave.specs.Purpose.{IsFor}
 use Rattle.slave.proofs.Direct.{keeps_all}
 use Rattle.slave.proofs.Stretching.{are_two, are_swept, comes_next, none_yet, one_after, one_turn}

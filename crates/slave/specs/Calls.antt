@@ -1,6 +1,6 @@
 -- The shelf calls of a session, by the format of its output.
 use Rattle.std.specs.Prelude.{◌≡◌, ℕ, IsSome, List, [], Option, Some, None, Result, Ok, Err, ◌⊎◌}
-use Rattle.playlist.specs.Template.{TemplateParts, template}
+use Rattle.playlist.specs.Template.{template}
 use Rattle.playlist.specs.declared.seg_options.SegOptions.{SegOptions}
 use Rattle.rmx_edge.specs.declared.shelf.ShelfFault.{ShelfFault}
 use Rattle.rmx_edge.specs.Shelf.{ShelfCall, ShelfState}

@@ -1,5 +1,5 @@
 -- What a lane was offered, packet by packet, and what became of it.
-use Rattle.std.specs.Prelude.{◌≡◌, ℕ, ◌+◌, ◌≤◌, ◌⊎◌, true, if◌then◌else◌, List, [], ◌∷◌, ◌++◌, length, map, sum_by, slice_get, Some}
+use Rattle.std.specs.Prelude.{◌≡◌, ℕ, ◌+◌, ◌≤◌, true, List, [], ◌∷◌, ◌++◌, length, map, sum_by, slice_get, Some}
 use Rattle.lane_core.specs.Machine.{is_full, waiting}
 use Rattle.lane.specs.Follows.{size_of}
 use Rattle.lane.specs.Sides.{ReceiptSide}

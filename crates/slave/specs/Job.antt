@@ -5,6 +5,7 @@ use Rattle.fifo_core.specs.declared.types.Answer.TheVariants as answer
 use Rattle.fifo_core.specs.declared.types.Fate.{Fate}
 use Rattle.fifo_core.specs.declared.state.FifoState.{FifoState}
 use Rattle.fifo_core.specs.State.{session_in}
+use Rattle.fifo_core.specs.History.{answered_done}
 use Rattle.rmx_edge.specs.Count.{Rose}
 use Rattle.rmx_edge.specs.Shelf.{ShelfState, ShelfCall}
 use Rattle.rmx_edge.specs.Counted.{with_count}
@@ -132,16 +133,6 @@ pub record Puts (g : Origin) (first : ℕ) (before : List Packet) (p : Packet) (
   pub calls : Calls g (put_calls g first before p) at old a new
   pub writer : a ≡ answer.Done → WriterAfter g first (before ++ p ∷ []) new.kit.writer
 
-abbrev pub is_done : Answer → Bool
-is_done answer.Done = true
-is_done answer.Fault = false
-is_done answer.NoMemory = false
-
-abbrev pub is_fault : Answer → Bool
-is_fault answer.Done = false
-is_fault answer.Fault = true
-is_fault answer.NoMemory = false
-
 -- a file was begun for the session that is to be opened
 pub record Begins (g : Origin) (old : JobView) (a : Answer) (new : JobView) : Type 0 where
   pub calls : Calls g (begin_calls g (number_of old) (session_in old.fifo)) Begin old a new
@@ -159,7 +150,7 @@ pub record Opens (g : Origin) (old : JobView) (a : Answer) (new : JobView) : Typ
   pub fifo : new.fifo ≡ old.fifo
   pub runs : new.runs ≡ old.runs
   pub run_places : new.run_places ≡ old.run_places
-  pub sessions : new.sessions ≡ old.sessions ++ record { number = session_in old.fifo; begun = is_done a; closed = false } ∷ []
+  pub sessions : new.sessions ≡ old.sessions ++ record { number = session_in old.fifo; begun = answered_done a; closed = false } ∷ []
   pub session_places : new.session_places + 1 ≡ old.session_places
 
 -- places were asked for, and granted or not
@@ -193,7 +184,7 @@ pub record Settles (i : ℕ) (f : Fate) (old new : JobView) : Type 0 where
 -- a session was opened and the packet written, or the opening was refused
 abbrev pub OpensAndPuts : Origin → Packet → FaultAt → JobView → Answer → JobView → Type 0
 OpensAndPuts g p at old a new =
-    ((mid : JobView) × Opens g old answer.Done mid × Puts g (number_of old) [] p at mid a new) ⊎ ((is_done a ≡ false) × Opens g old a new)
+    ((mid : JobView) × Opens g old answer.Done mid × Puts g (number_of old) [] p at mid a new) ⊎ ((answered_done a ≡ false) × Opens g old a new)
 
 -- there is room for the run of this fate, or it was refused; the first run has its place from the start
 pub record MakesRoom (i : ℕ) (f : Fate) (old : JobView) (granted : Bool) (new : JobView) : Type 0 where

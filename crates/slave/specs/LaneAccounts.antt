@@ -1,5 +1,5 @@
 -- What the records of an output behind a lane must say over its packets, the refused and the flushed ones among them.
-use Rattle.std.specs.Prelude.{◌≡◌, ℕ, ◌+◌, ◌-◌, ◌≤◌, ◌<◌, ◌⊎◌, ◌==◌, ◌*◌, Bool, true, false, not, if◌then◌else◌, List, [], ◌∷◌, ◌++◌, length, filter, count_by, sum_by, take, drop, slice_get, Option, Some}
+use Rattle.std.specs.Prelude.{◌≡◌, ℕ, ◌+◌, ◌-◌, ◌≤◌, ◌<◌, ◌⊎◌, ◌==◌, ◌*◌, Bool, true, false, not, if◌then◌else◌, List, [], ◌∷◌, ◌++◌, length, filter, count_by, sum_by, take, drop, slice_get, Some}
 use Rattle.std.specs.List.{list_any}
 use Rattle.fifo_core.specs.declared.types.FifoOptions.{FifoOptions}
 use Rattle.fifo_core.specs.declared.types.Fate.{Fate}
@@ -17,6 +17,7 @@ use Rattle.slave.specs.Table.{StandsAt}
 use Rattle.slave.specs.End.{EndView, EndedAll}
 use Rattle.slave.specs.Accounts.{Has, NotesRise, MayWait, MayBeLost, MayStand}
 use Rattle.slave.specs.AccountsAll.{GivesAt, SweptAt}
+use Rattle.slave.specs.Entered.{entered}
 
 -- the refusal of that number was that of the packet of that index
 abbrev pub Names : List ReceiptSide → (number index : ℕ) → Type 0
@@ -154,8 +155,8 @@ pub record Dealt (L : List Packet) (T : List Given) (numbers : List (ℕ × ℕ)
   -- what was given came in order
   pub passed : PassedOn T (messages_from n.receipts.items 0 L)
 
--- What an end tells once its lane's refusals are entered: the refusals are new among its fates, and nothing else changes but
--- that memory may have been wanted for them.
+-- What an end tells once its lane's refusals are entered: the refusals are new among its fates, each before the run behind it, and
+-- nothing else changes. Where memory was wanted for them, none is new, and the state tells it.
 pub record AddsLane (n : LaneNote) (old new : EndView) (short : Bool) : Type 0 where
   pub lane : new.lane ≡ Some n
   pub shelf : new.shelf ≡ old.shelf
@@ -165,6 +166,8 @@ pub record AddsLane (n : LaneNote) (old new : EndView) (short : Bool) : Type 0 w
   pub bytes : new.bytes ≡ old.bytes
   pub state : new.state ≡ (if short then ends.NoMemory else old.state)
   pub fates : unrefused n.receipts.items (expand new.fates) ≡ unrefused n.receipts.items (expand old.fates)
+  pub all : short ≡ false → new.fates ≡ entered old.fates n.receipts.items
+  pub none : short ≡ true → new.fates ≡ old.fates
   -- where nothing was refused, the fates stay, and no memory is wanted
   pub same : n.receipts.items ≡ [] → (new.fates ≡ old.fates) × (short ≡ false)
 

@@ -7,7 +7,7 @@ use Rattle.fifo_core.specs.declared.types.PacketFacts.{PacketFacts}
 use Rattle.fifo_core.specs.declared.types.Answer.TheVariants as answer
 use Rattle.fifo_core.specs.declared.types.Mode.TheVariants.{Live}
 use Rattle.fifo_core.specs.declared.types.Answer.{Answer}
-use Rattle.fifo_core.specs.History.{Begun, Tried, Fated, Want, History, mode_of, mode_is_live, mode_is_dead, session_of, trying, fates_of, wanted, after_of, action_of, flush_of}
+use Rattle.fifo_core.specs.History.{Begun, Tried, Fated, Want, History, mode_of, mode_is_live, mode_is_dead, session_of, trying, fates_of, wanted, after_of, action_of, flush_of, answered_done, answered_fault}
 use Rattle.fifo_core.specs.Follows.{Turn, Comes, Follows, MayWant, Answered, Acted}
 use Rattle.fifo_core.specs.State.{Shows, next_of, after_answer, hand_after_answer}
 use Rattle.fifo_core.specs.declared.types.After.{After}
@@ -30,7 +30,7 @@ use Rattle.slave.specs.Calls.{begin_calls, put_calls, end_calls, puts, number_in
 use Rattle.slave.specs.declared.records.Run.{Run}
 use Rattle.slave.specs.Given.{Given, Sent, Swept, index_of, turn_of, end_from, Gives, sent_from, IsGapless}
 use Rattle.slave.specs.Runs.{expand, pushed, Joins, AreInOrder}
-use Rattle.slave.specs.Job.{JobView, KitOf, Writer, WriterAfter, SoundStays, is_done, is_fault}
+use Rattle.slave.specs.Job.{JobView, KitOf, Writer, WriterAfter, SoundStays}
 
 -- how a session stands
 pub data Outcome : Type 0 where
@@ -312,7 +312,7 @@ pub record Holds (g : Origin) (o : FifoOptions) (T : List Given) (i : ℕ) (p : 
   -- there is a place for the run of a written packet, and one more for want of memory
   pub room : Joins v.runs i (fate.Written (trying o h)) ⊎ (2 ≤ v.run_places)
   pub last_place : 1 ≤ v.run_places
-  pub places : is_done a ≡ true → 1 ≤ v.fault_places
+  pub places : answered_done a ≡ true → 1 ≤ v.fault_places
 
 -- the turn of the packet in hand ends so
 abbrev pub Finished : FifoOptions → History → ℕ → PacketFacts → Answer → History → Type 0
@@ -333,8 +333,8 @@ pub record Tells (o : FifoOptions) (h : History) (i : ℕ) (facts : PacketFacts)
   pub run_places : old.run_places ≤ new.run_places
   pub session_places : old.session_places ≤ new.session_places
   pub fault_places : old.fault_places ≤ new.fault_places
-  pub not_asked : is_fault a ≡ false → told ≡ h
-  pub granted : is_fault a ≡ true → told ≡ h → (2 ≤ new.run_places) × (1 ≤ new.session_places) × (1 ≤ new.fault_places)
+  pub not_asked : answered_fault a ≡ false → told ≡ h
+  pub granted : answered_fault a ≡ true → told ≡ h → (2 ≤ new.run_places) × (1 ≤ new.session_places) × (1 ≤ new.fault_places)
 
 -- the fate that a packet has if its calls are all done
 abbrev pub expected_in : FifoOptions → History → Action → Fate

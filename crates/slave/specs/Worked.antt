@@ -8,6 +8,7 @@ use Rattle.lane_core.specs.Machine.{Event, Reply}
 use Rattle.lane.specs.declared.msg.Msg.{Msg}
 use Rattle.lane.specs.Past.{Past}
 use Rattle.lane.specs.Told.{TakerNow}
+use Rattle.lane.specs.Ring.{one_if}
 use Rattle.slave.specs.Origin.{Origin}
 use Rattle.slave.specs.Given.{Given}
 use Rattle.slave.specs.Fresh.{IsFresh}
@@ -16,10 +17,6 @@ use Rattle.slave.specs.Purpose.{IsFor}
 use Rattle.slave.specs.End.{EndView, EndedAll, end_view}
 use Rattle.slave.specs.Stretches.{Stretches}
 use Rattle.slave.specs.declared.run.WorkEnd.{WorkEnd}
-
-abbrev pub one_if : Bool → ℕ
-one_if true = 1
-one_if false = 0
 
 abbrev pub is_fail : Event Msg → Bool
 is_fail (machine.offer x) = false

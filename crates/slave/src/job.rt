@@ -1,7 +1,7 @@
 // One output. Every place for a record is reserved before the calls of the turn that may need it.
 ghost use Rattle.std.specs.Prelude.{◌≡◌, ◌+◌, ◌-◌, ◌≤◌, ◌<◌, ◌∷◌, ◌++◌, ◌⊎◌, [], true, false, ◌^◌, ℕ, Some, None, IsSome, List, Option, length, IfOk, IfErr, string_bytes};
-ghost use Rattle.fifo_core.specs.State.{session_in, Shows, hand_of, next_of};
-ghost use Rattle.fifo_core.specs.History.{History, action_of, flush_of, mode_of, mode_is_live, mode_is_dead};
+ghost use Rattle.fifo_core.specs.State.{Shows, hand_of, next_of};
+ghost use Rattle.fifo_core.specs.History.{History, answered_done, action_of, flush_of, mode_of, mode_is_live, mode_is_dead};
 ghost use Rattle.fifo_core.specs.declared.types.FifoOptions.{FifoOptions};
 ghost use Rattle.fifo_core.specs.declared.types.PacketFacts.{PacketFacts};
 ghost use Rattle.rmx_edge.specs.Counted.{with_count, inner, bytes_of};
@@ -14,7 +14,7 @@ ghost use Rattle.slave.specs.Calls.{IsBuilt};
 ghost use Rattle.slave.specs.Origin.{Origin, facts_of, session_name as session_in_name};
 ghost use Rattle.slave.specs.Given.{Given, Sent, Swept, end_from};
 ghost use Rattle.slave.specs.Runs.{Joins};
-ghost use Rattle.slave.specs.Job.{ClosesLast, WriterAfter, is_done as is_answer_done};
+ghost use Rattle.slave.specs.Job.{ClosesLast, WriterAfter};
 ghost use Rattle.slave.specs.Watched.{inner as watched};
 ghost use Rattle.fifo_core.specs.declared.types.Answer.TheVariants as answer;
 
@@ -547,7 +547,7 @@ impl<S: Shelf> SlaveJob<S> {
 }
 
 fn is_done(answer: Answer) -> bool
-    ensures { result ≡ is_answer_done answer }
+    ensures { result ≡ answered_done answer }
 {
     matches!(answer, Answer::Done)
 }

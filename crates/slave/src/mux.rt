@@ -22,6 +22,7 @@ use segmenter::SegMux;
 use std::alloc::Global;
 use ts_mux::TsMux;
 
+/// A muxer of one of the formats. One of segments has the template of their names beside it.
 #[derive(Drop)]
 pub enum Mux {
     Adts(AdtsMux),

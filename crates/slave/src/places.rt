@@ -1,10 +1,11 @@
 // A list with places reserved ahead, whose last item may still change.
-ghost use Rattle.std.specs.Prelude.{◌≡◌, ◌+◌, ◌≤◌, ◌<◌, ◌∷◌, ◌++◌, [], IsOk, OnErr, OnOk, length, List, Some, None};
+ghost use Rattle.std.specs.Prelude.{◌≡◌, ◌+◌, ◌≤◌, ◌<◌, ◌∷◌, ◌++◌, [], IsOk, OnOk, length, List, Some, None};
 
 use rmx_media::{Items, NoMemory};
 use std::alloc::Global;
 use std::marker::Model;
 
+/// A list that grows into places reserved before, so that an item more wants no memory. Its last item may still be replaced.
 #[derive(Drop)]
 pub struct Places<T> {
     front: Items<T>,
@@ -25,6 +26,7 @@ impl<T> Model for Places<T> {
 }
 
 impl<T: Copy + Drop> Places<T> {
+    /// An empty list without reserved places.
     pub fn new(alloc: Global) -> Places<T>
         ensures items { result.items ≡ [] }
         ensures spare { result.spare ≡ 0 }
@@ -53,6 +55,7 @@ impl<T: Copy + Drop> Places<T> {
         Ok(())
     }
 
+    /// Puts an item behind the last one, into a reserved place.
     pub fn push(&mut self, item: T)
         requires { 1 ≤ self.old.spare }
         ensures items { self.new.items ≡ self.old.items ++ item ∷ [] }

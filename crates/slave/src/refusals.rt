@@ -1,6 +1,5 @@
 // The refusals of a lane are entered among the fates of its output.
-ghost use Rattle.std.specs.Prelude.{◌≡◌, ◌+◌, ◌-◌, ◌≤◌, ◌<◌, ◌⊎◌, ◌∷◌, ◌++◌, [], ℕ, true, false, List, Some, length, map, drop, IfOk, IfErr};
-ghost use Rattle.rmx_edge.specs.Shelf.{ShelfState};
+ghost use Rattle.std.specs.Prelude.{◌≡◌, ◌+◌, ◌-◌, ◌≤◌, ◌<◌, ◌++◌, [], ℕ, true, false, List, Some, length, map, drop, IfOk, IfErr};
 ghost use Rattle.fifo_core.specs.declared.types.FifoOptions.{FifoOptions};
 ghost use Rattle.rmx_media.specs.declared.packet.Packet.{Packet};
 ghost use Rattle.slave.specs.Origin.{Origin};

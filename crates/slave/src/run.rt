@@ -2,6 +2,7 @@
 ghost use Rattle.std.specs.Prelude.{◌≡◌, ◌≤◌, ◌<◌, ◌^◌, ◌∷◌, ◌++◌, [], List, false, true};
 ghost use Rattle.std.specs.Arc.{arc_value};
 ghost use Rattle.fifo_core.specs.declared.types.FifoOptions.{FifoOptions};
+ghost use Rattle.lane.specs.Ring.{one_if};
 ghost use Rattle.slave.specs.Origin.{Origin};
 ghost use Rattle.slave.specs.Fresh.{IsFresh};
 ghost use Rattle.slave.specs.Job.{view_of};
@@ -10,7 +11,7 @@ ghost use Rattle.slave.specs.Table.{KeepsAll, GrowsAll, Takes};
 ghost use Rattle.slave.specs.End.{EndedAllBy, end_view};
 ghost use Rattle.slave.specs.Stretches.{sent, swept, AreOf, Flushed};
 ghost use Rattle.slave.specs.Purpose.{IsFor};
-ghost use Rattle.slave.specs.Worked.{Worked, fails, got_late, one_if};
+ghost use Rattle.slave.specs.Worked.{Worked, fails, got_late};
 
 use crate::job::{SlaveEnd, SlaveJob};
 use lane::{Lane, Msg, Taken, Taker};

@@ -1,5 +1,5 @@
 // Fates are kept as runs.
-ghost use Rattle.std.specs.Prelude.{◌≡◌, ◌+◌, ◌≤◌, ◌<◌, ◌∷◌, ◌++◌, [], true, false, ◌^◌};
+ghost use Rattle.std.specs.Prelude.{◌≡◌, ◌+◌, ◌≤◌, ◌<◌, true, false, ◌^◌};
 ghost use Rattle.slave.specs.Runs.{expand, pushed, Joins, AreInOrder};
 
 use crate::places::Places;

@@ -50,6 +50,7 @@ pub struct ThreadSpawner {
 }
 
 impl ThreadSpawner {
+    /// A spawner that refused no start yet.
     pub fn new() -> ThreadSpawner
         ensures { result.refused ≡ 0 }
     {
@@ -87,6 +88,7 @@ pub struct RefusingSpawner {
 }
 
 impl RefusingSpawner {
+    /// A spawner that refuses these starts.
     pub fn new(starts: Vec<u64>) -> RefusingSpawner
         ensures { (result.refused ≡ 0) × (result.next ≡ 0) × (result.starts ≡ starts) }
     {

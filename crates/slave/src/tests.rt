@@ -1,6 +1,6 @@
 // Outputs over small shelves, by worked examples. An output of audio is ADTS, and its packets are one byte of AAC each: 21, 22,
 // 23 and so on. One of video is MPEG-TS; its packets are one unit each, and every second one is a key packet, from the first on.
-ghost use Rattle.std.specs.Prelude.{◌≡◌, ◌<◌, ◌^◌, ℕ, List, length, Some, None, IfOk, true, false, OnOk};
+ghost use Rattle.std.specs.Prelude.{◌≡◌, ◌<◌, ◌^◌, ℕ, List, length, Some, None, IfOk, true, false};
 ghost use Rattle.rmx_media.specs.declared.packet.Format.TheVariants as format;
 ghost use Rattle.rmx_media.specs.declared.streams.Kind.TheVariants.{Audio, Video};
 ghost use Rattle.rmx_media.specs.Config.{IsAsRead, kind_of};

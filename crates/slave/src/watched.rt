@@ -14,6 +14,7 @@ pub struct Watched<S: Shelf> {
 impl<S: Shelf> Watched<S> {
     ghost use Rattle.slave.specs.Watched.{inner};
 
+    /// Watches this shelf, which wasn't flushed yet.
     pub fn new(shelf: S) -> Watched<S>
         ensures { inner result ≡ shelf }
     {
@@ -23,12 +24,14 @@ impl<S: Shelf> Watched<S> {
         }
     }
 
+    /// The shelf that is watched.
     pub fn shelf(&self) -> &S
         ensures { result.now ≡ inner self.now }
     {
         &self.shelf
     }
 
+    /// Hands the shelf back.
     pub fn into_inner(self) -> S
         ensures { result ≡ inner self }
     {

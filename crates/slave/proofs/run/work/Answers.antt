@@ -1,9 +1,10 @@
 use Rattle.std.proofs.Common.{◌∙◌, ◌++◌, ◌∷◌, [], length, false, ap, ap₂, sym, refl, subst}
+use Rattle.lane.specs.Ring.{one_if}
 use Rattle.lane_core.specs.Machine as machine
 use Rattle.slave.specs.Job.{view_of}
 use Rattle.slave.specs.End.{end_view}
 use Rattle.slave.specs.Stretches.{AreOf, Flushed}
-use Rattle.slave.specs.Worked.{fails, got_late, one_if}
+use Rattle.slave.specs.Worked.{fails, got_late}
 use Rattle.slave.proofs.Stretching.{are_of}
 use Rattle.slave.proofs.Working.{fails_other, fails_take, none_late, one_late, late_ended, begins, moved, may_come, later, wrote, idled, left_out, finished}
 use Rattle.slave.proofs.run.work.Goals as goal

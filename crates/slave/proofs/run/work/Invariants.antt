@@ -1,10 +1,11 @@
 use Rattle.std.proofs.Common.{◌≡◌}
+use Rattle.lane.specs.Ring.{one_if}
 use Rattle.fifo_core.specs.declared.types.FifoOptions.{FifoOptions}
 use Rattle.slave.specs.Origin.{Origin}
 use Rattle.slave.specs.Fresh.{IsFresh}
 use Rattle.slave.specs.Job.{view_of}
 use Rattle.slave.specs.Purpose.{IsFor}
-use Rattle.slave.specs.Worked.{fails, got_late, one_if}
+use Rattle.slave.specs.Worked.{fails, got_late}
 use Rattle.slave.proofs.Working.{Going}
 use Rattle.slave.proofs.run.work.Given as goal
 
