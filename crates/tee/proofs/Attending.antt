@@ -1,9 +1,7 @@
 -- The outputs of a run, one after another.
-use Rattle.std.proofs.Common.{◌≡◌, ◌<◌, ◌≤◌, ◌+◌, ◌⊎◌, ℕ, suc, List, [], ◌∷◌, ◌++◌, length, take, drop, drop-cons, get_or, add-one, Bool, true, false, Option, Some, None, refl, sym, ◌∙◌, ap, subst, arith, inl, inr}
+use Rattle.std.proofs.Common.{◌≡◌, ◌<◌, ◌+◌, ℕ, suc, List, [], ◌∷◌, ◌++◌, length, drop, drop-cons, get_or, add-one, Bool, true, false, Option, Some, None, refl, sym, ◌∙◌, ap, subst, inl, inr}
 use Rattle.std.specs.Prelude.{◌&&◌, ◌||◌}
-use Rattle.std.proofs.lemmas.List.{take_all}
 use Rattle.fifo_core.specs.History.{History, mode_of, mode_is_dead}
-use Rattle.fifo_core.specs.Follows.{Follows}
 use Rattle.fifo_core.specs.declared.types.FifoOptions.{FifoOptions}
 use Rattle.rmx_edge.specs.Shelf.{ShelfState}
 use Rattle.rmx_edge.specs.declared.shelf.Shelf.{Ghosts}
@@ -11,10 +9,9 @@ use Rattle.rmx_media.specs.declared.packet.Packet.{Packet}
 use Rattle.rmx_media.specs.declared.streams.StreamInfo.{StreamInfo}
 use Rattle.slave.specs.Job.{view_of}
 use Rattle.slave.specs.Origin.{Origin}
-use Rattle.slave.specs.Table.{Keeps, turns_from}
+use Rattle.slave.specs.Table.{Keeps}
 use Rattle.tee.specs.Attends.{Attends, AttendsOn, IsStarted, choice_of}
 use Rattle.tee.specs.Each.{Each3}
-use Rattle.tee.specs.Ends.{Stood}
 use Rattle.tee.specs.Fails.{any_both, all_of, stops}
 use Rattle.tee.specs.Route.{IsPlaced}
 use Rattle.tee.specs.Rides.{Rides, SameEnd}
@@ -28,7 +25,7 @@ use Rattle.tee.specs.declared.filter.Filtered.{Filtered}
 use Rattle.tee.specs.declared.outlet.Outlet.{Outlet}
 use Rattle.tee.specs.declared.outlet.Outlet.TheVariants as outlet
 use Rattle.tee.proofs.Over.{alive_by, dead_by, over_by}
-use Rattle.tee.proofs.Watching.{known_now}
+use Rattle.tee.proofs.Watching.{known_now, stands_now}
 
 -- a track that goes on twice goes on
 told_twice : (n : ℕ) (a b c : Option ℕ) → ToldBy n a b → ToldBy n b c → ToldBy n a c
@@ -75,9 +72,6 @@ module _ {S G : Type 0} {ghosts : Ghosts S} (state : S → ShelfState) (infos : 
     pub tracks_left : List Track
     pub attend : Each3 (Attends state infos given asked false) seats_left tracks_left rest
     pub same : stops (aborts seats) (known_deads seats tracks) ≡ Left seats_left tracks_left all
-
-  pub none_asked : (ss : List Seat) (ts : List Track) (os : List (Outlet S G ghosts)) → Each3 (Attends state infos given asked false) ss ts os → LeftTo ss ts true os
-  none_asked ss ts os a = record { seats_left = ss; tracks_left = ts; attend = a; same = refl }
 
   -- what an output that is asked says, whatever its seat
   abbrev pub Says : Outlet S G ghosts → Bool → Type 0
@@ -186,20 +180,6 @@ pub there_gave : {S : Type 0} (G : Type 0) (ghosts : Ghosts S) (state : S → Sh
 there_gave G ghosts state infos given asked n p s (Here h) old new running a same f = absurd a
 there_gave G ghosts state infos given asked n p s (There told) old new running a same f = (There told, (f told a.0, started_still s old new running same a.1, same.closed ∙ a.2), inl refl)
 
--- how an output that the reader writes stands
-stands_here : {S : Type 0} {ghosts : Ghosts S} (state : S → ShelfState) (infos : List StreamInfo) (given : List Packet) (u : ℕ) (s : Seat) (h : History) (t : TeeSlave S ghosts)
-    → u ≡ length given → Sits state infos given s h t → Stood s given h u (is_dead s h)
-stands_here state infos given u s h t e sits = record {
-  part = h;
-  later = [];
-  split = refl;
-  follows =
-      let all : take u given ≡ given = take_all u given (omega arith) in
-      subst (λ (ps : List Packet). Follows s.slave.fifo (turns_from s.origin 0 (chosen s ps)) h) (sym all)
-      (subst (λ (x : History). Follows s.slave.fifo (turns_from s.origin 0 (chosen s given)) x) sits.history_is sits.keeps.follows);
-  dead_is = refl;
-}
-
 -- how each output stands now
 pub stand_all : {S G : Type 0} {ghosts : Ghosts S} (state : S → ShelfState) (infos : List StreamInfo) (given : List Packet) (u : ℕ) (ss : List Seat) (ts : List Track) (os : List (Outlet S G ghosts))
     → u ≡ length given → Each3 (Attends state infos given u false) ss ts os → Each3 (StoodOn given u) ss ts (known_deads ss ts)
@@ -208,7 +188,7 @@ stand_all state infos given u [] [] (o ∷ os) e a = absurd a
 stand_all state infos given u [] (t ∷ ts) os e a = absurd a
 stand_all state infos given u (s ∷ ss) [] os e a = absurd a
 stand_all state infos given u (s ∷ ss) (t ∷ ts) [] e a = absurd a
-stand_all state infos given u (s ∷ ss) (Here h ∷ ts) (outlet.Here slave inline left ∷ os) e a = (stands_here state infos given u s h slave e a.0.0, stand_all state infos given u ss ts os e a.1)
+stand_all state infos given u (s ∷ ss) (Here h ∷ ts) (outlet.Here slave inline left ∷ os) e a = (stands_now state infos given u s h slave e a.0.0, stand_all state infos given u ss ts os e a.1)
 stand_all state infos given u (s ∷ ss) (Here h ∷ ts) (outlet.There sender running ∷ os) e a = absurd a.0
 stand_all state infos given u (s ∷ ss) (There told ∷ ts) (outlet.Here slave inline left ∷ os) e a = absurd a.0
 stand_all state infos given u (s ∷ ss) (There told ∷ ts) (outlet.There sender running ∷ os) e a = (known_now told u a.0.0.within, stand_all state infos given u ss ts os e a.1)

@@ -3,6 +3,7 @@ use Rattle.std.proofs.Common.{◌≡◌, ◌≢◌, ◌<◌, ◌≤◌, ◌+◌,
 use Rattle.std.specs.Prelude.{◌==◌, ◌&&◌, ◌||◌}
 use Rattle.std.specs.List.{list_any, list_all, filter}
 use Rattle.std.proofs.lemmas.Bool.Decides.{nat_tests}
+use Rattle.std.proofs.lemmas.Bool.{and_parts}
 use Rattle.bsf_chain.specs.declared.filter.Filter.{Filter}
 use Rattle.bsf_chain.specs.Chain.{are_keepers, is_keeper}
 use Rattle.options.specs.declared.select.Spec.{Spec}
@@ -24,13 +25,9 @@ pub none_for : (chains : List (Spec × List Filter)) (n : ℕ) (k : Kind) → li
 none_for [] n k e = refl
 none_for (c ∷ cs) n k e = none_picked (selects c.0 n k) (list_any (λ c. selects c.0 n k) cs) c.1 (filters_for cs n k) e (none_for cs n k)
 
-both_true : (a b : Bool) → (a && b) ≡ true → (a ≡ true) × (b ≡ true)
-both_true true b e = (refl, e)
-both_true false b e = absurd cc
-
 keepers_append : (xs ys : List Filter) → are_keepers xs ≡ true → are_keepers ys ≡ true → are_keepers (xs ++ ys) ≡ true
 keepers_append [] ys e h = h
-keepers_append (x ∷ xs) ys e h = let b = both_true (is_keeper x) (are_keepers xs) e in rw b.0 (keepers_append xs ys b.1 h)
+keepers_append (x ∷ xs) ys e h = let b = and_parts (is_keeper x) (are_keepers xs) e in rw b.0 (keepers_append xs ys b.1 h)
 
 keepers_picked : (b : Bool) (xs rest : List Filter) → are_keepers xs ≡ true → are_keepers rest ≡ true → are_keepers (cond b (xs ++ rest) rest) ≡ true
 keepers_picked true xs rest e h = keepers_append xs rest e h
@@ -41,7 +38,7 @@ pub keepers_for : (chains : List (Spec × List Filter)) (n : ℕ) (k : Kind) →
 unfolding are_native
 keepers_for [] n k e = refl
 keepers_for (c ∷ cs) n k e =
-    let b = both_true (are_keepers c.1) (list_all (λ c. are_keepers c.1) cs) e in
+    let b = and_parts (are_keepers c.1) (list_all (λ c. are_keepers c.1) cs) e in
     keepers_picked (selects c.0 n k) c.1 (filters_for cs n k) b.0 (keepers_for cs n k b.1)
 
 short_by : (chains : List (Spec × List Filter)) (n : ℕ) (k : Kind) → fit_together chains n k ≡ true → length (filters_for chains n k) ≤ 16
@@ -81,11 +78,6 @@ pub kind_before : (s : Slave) (infos : List StreamInfo) (m n : ℕ) → n < m �
 kind_before s [] m n lt = refl
 kind_before s (x ∷ xs) m n lt = behind (is_taken s m x.kind) m n x (filter (is_chosen s) (numbered_from (m + 1) xs)) None (other m n (omega arith)) (kind_before s xs (m + 1) n (omega arith))
 
--- the stream of a number above the last isn't there
-pub kind_past : (s : Slave) (infos : List StreamInfo) (m n : ℕ) → m + length infos ≤ n → kind_in (filter (is_chosen s) (numbered_from m infos)) n ≡ None
-kind_past s [] m n le = refl
-kind_past s (x ∷ xs) m n le = behind (is_taken s m x.kind) m n x (filter (is_chosen s) (numbered_from (m + 1) xs)) None (other m n (omega arith)) (kind_past s xs (m + 1) n (omega arith))
-
 -- the kind of a stream that is there, where it is taken
 abbrev pub kind_if : Bool → Kind → Option Kind
 kind_if b k = cond b (Some k) None
@@ -103,11 +95,6 @@ kind_at s (x ∷ xs) m zero n d e lt =
 kind_at s (x ∷ xs) m (suc k) n d e lt =
     behind (is_taken s m x.kind) m n x (filter (is_chosen s) (numbered_from (m + 1) xs)) _ (other m n (omega arith)) (kind_at s xs (m + 1) k n d (omega arith) (omega arith))
 
--- where no stream is taken out
-some_before : (infos : List StreamInfo) (m n : ℕ) → n < m → kind_in (numbered_from m infos) n ≡ None
-some_before [] m n lt = refl
-some_before (x ∷ xs) m n lt = behind true m n x (numbered_from (m + 1) xs) None (other m n (omega arith)) (some_before xs (m + 1) n (omega arith))
-
 taken_by : (a b c : Bool) (m n : ℕ) (k : Kind) (x : StreamInfo) (rest all : List MuxStream) (f : Kind → Bool)
     → b ≡ (m == n) → c ≡ (a && f x.kind) → (kind_in rest n ≡ Some k → (kind_in all n ≡ Some k) × (f k ≡ true)) → (b ≡ true → kind_in rest n ≡ None)
     → kind_in (cond c (record { stream = m; info = x } ∷ rest) rest) n ≡ Some k → (cond b (Some x.kind) (kind_in all n) ≡ Some k) × (f k ≡ true)
@@ -115,7 +102,7 @@ taken_by a true true m n k x rest all f e g h before found =
     let same : cond (m == n) (Some x.kind) (kind_in rest n) ≡ Some x.kind = rw (← e) refl in
     let is : Some x.kind ≡ Some k = sym same ∙ found in
     let kind : x.kind ≡ k = cc in
-    (is, subst (λ (y : Kind). f y ≡ true) kind (both_true a (f x.kind) (sym g)).1)
+    (is, subst (λ (y : Kind). f y ≡ true) kind (and_parts a (f x.kind) (sym g)).1)
 taken_by a true false m n k x rest all f e g h before found = absurd (let none = before refl in cc)
 taken_by a false true m n k x rest all f e g h before found =
     let same : cond (m == n) (Some x.kind) (kind_in rest n) ≡ kind_in rest n = rw (← e) refl in h (sym same ∙ found)
@@ -158,12 +145,6 @@ can_be_chosen s [] i n = absurd i
 can_be_chosen s (x ∷ []) i n = one_alone x (is_taken s 0 x.kind) i n
 can_be_chosen s (v ∷ a ∷ []) i n = one_video v a (is_taken s 0 v.kind) (is_taken s 1 a.kind) i n
 can_be_chosen s (v ∷ a ∷ x ∷ xs) i n = absurd i
-
-pub few_infos : (infos : List StreamInfo) → AreInfos infos → length infos ≤ 2
-few_infos [] i = absurd i
-few_infos (x ∷ []) i = omega arith
-few_infos (v ∷ a ∷ []) i = omega arith
-few_infos (v ∷ a ∷ x ∷ xs) i = absurd i
 
 pub sound_at : (infos : List StreamInfo) (n : ℕ) (d : StreamInfo) → AreInfos infos → n < length infos → IsSound (get_or infos n d)
 sound_at [] n d i lt = absurd i

@@ -1,9 +1,10 @@
 -- Outputs that are closed, and their ends.
 use Rattle.std.proofs.Common.{◌≡◌, ◌+◌, ℕ, List, [], ◌∷◌, ◌++◌, length, map, Bool, true, false, Option, refl, sym, ◌∙◌, ap, subst}
+use Rattle.lane.specs.Ring.{one_if}
 use Rattle.std.specs.Prelude.{◌&&◌, ◌||◌, is_some, not}
 use Rattle.std.specs.List.{list_all}
+use Rattle.std.proofs.lemmas.Bool.{or_parts, or_right}
 use Rattle.fifo_core.specs.History.{History}
-use Rattle.fifo_core.specs.declared.types.EndState.{EndState}
 use Rattle.fifo_core.specs.declared.types.EndState.TheVariants as ends
 use Rattle.rmx_edge.specs.Shelf.{ShelfState}
 use Rattle.rmx_edge.specs.declared.shelf.Shelf.{Ghosts}
@@ -20,13 +21,13 @@ use Rattle.tee.specs.RunEnds.{AllEndWith, EndsAs, EndsOn, EndsShort, EndsThere, 
 use Rattle.tee.specs.RunKeeps.{KeepsRun, dead_in, inlined}
 use Rattle.tee.specs.Seat.{Seat, aborts, chosen}
 use Rattle.tee.specs.Sits.{EndsAt, Sits}
-use Rattle.tee.specs.Tracks.{Track, Here, There, is_there, known_dead, known_deads, one_if, theres}
+use Rattle.tee.specs.Tracks.{Track, Here, There, is_there, known_dead, known_deads, theres}
 use Rattle.tee.specs.declared.filter.Filtered.{Filtered}
 use Rattle.tee.specs.declared.outlet.Outlet.TheVariants as outlet
 use Rattle.tee.specs.declared.output.TeeSlave.{TeeSlave}
 use Rattle.tee.specs.declared.run.TeeRun.{TeeRun}
 use Rattle.tee.specs.declared.sender.Sender.{Sender}
-use Rattle.tee.proofs.Finish.{both_by, either_found, failed_by, found_by, neither, over_when}
+use Rattle.tee.proofs.Finish.{both_by, either_found, failed_by, found_by, over_when, states_of}
 use Rattle.tee.proofs.Joined.{unclosed_there}
 use Rattle.tee.proofs.Places.{each_unsnoc}
 
@@ -164,9 +165,6 @@ ends_short state run seats given es short k a =
     let on = all_on state given seats k.stands.tracks es short a in
     (record { tracks = k.stands.tracks; each = on.0; stood = k.stands.watches.stood }, on.1)
 
-abbrev states_of : {S : Type 0} → List (SlaveEnd S) → List EndState
-states_of es = map (λ e. e.state) es
-
 first_one : {S : Type 0} (state : S → ShelfState) (given : List Packet) (n : ℕ) (ss : List Seat) (ts : List Track) (es : List (SlaveEnd S)) → Each3 (EndsAs state given) ss ts es → any_want (states_of es) ≡ false
     → any_both (aborts ss) (known_deads ss ts) ≡ true → is_some (first_failed_from n (aborts ss) (states_of es)) ≡ true
 first_one state given n [] [] [] a w e = absurd cc
@@ -175,7 +173,7 @@ first_one state given n [] (t ∷ ts) es a w e = absurd a
 first_one state given n (s ∷ ss) [] es a w e = absurd a
 first_one state given n (s ∷ ss) (t ∷ ts) [] a w e = absurd a
 first_one state given n (s ∷ ss) (t ∷ ts) (x ∷ es) a w e =
-    let none = neither (is_want x.state) (any_want (states_of es)) w in
+    let none = or_parts (is_want x.state) (any_want (states_of es)) w in
     found_by s.slave.abort (is_failed x.state) (known_dead s t) (any_both (aborts ss) (known_deads ss ts)) n (first_failed_from (n + 1) (aborts ss) (states_of es))
     (failed_by (known_dead s t) x.state a.0.given_up none.0) (first_one state given (n + 1) ss ts es a.1 none.1) e
 
@@ -187,7 +185,7 @@ all_fail state given [] (t ∷ ts) es a w e = absurd a
 all_fail state given (s ∷ ss) [] es a w e = absurd a
 all_fail state given (s ∷ ss) (t ∷ ts) [] a w e = absurd a
 all_fail state given (s ∷ ss) (t ∷ ts) (x ∷ es) a w e =
-    let none = neither (is_want x.state) (any_want (states_of es)) w in
+    let none = or_parts (is_want x.state) (any_want (states_of es)) w in
     both_by (known_dead s t) (all_of (known_deads ss ts)) (is_failed x.state) (list_all is_failed (states_of es)) (failed_by (known_dead s t) x.state a.0.given_up none.0) (all_fail state given ss ts es a.1 none.1) e
 
 pub one_fails : {S G : Type 0} {ghosts : Ghosts S} (state : S → ShelfState) (run : TeeRun S G ghosts) (seats : List Seat) (given : List Packet) (es : List (SlaveEnd S)) (u : ℕ) → (k : KeepsRun state run seats given)
@@ -197,10 +195,6 @@ one_fails state run seats given es u k a dead w =
     either_found (any_both (aborts seats) (known_deads seats ts)) (all_of (known_deads seats ts)) (first_failed_from 0 (aborts seats) (states_of es)) (list_all is_failed (states_of es))
     (first_one state given 0 seats ts es a w) (all_fail state given seats ts es a w)
     (sym k.stands.watches.now ∙ over_when run.stopped u dead)
-
-or_right : (a b : Bool) → b ≡ true → (a || b) ≡ true
-or_right true b e = refl
-or_right false b e = e
 
 or_left : (a b c : Bool) → (b ≡ true → c ≡ true) → (a || b) ≡ true → (a || c) ≡ true
 or_left true b c f e = refl

@@ -2,6 +2,7 @@
 use Rattle.std.proofs.Common.{◌≡◌, ◌+◌, ℕ, List, [], ◌∷◌, ◌++◌, map, Bool, true, false, cond, Option, Some, None, refl, sym, ◌∙◌, inl, inr}
 use Rattle.std.specs.Prelude.{◌&&◌, ◌||◌, is_some}
 use Rattle.std.specs.List.{AllZip, list_all}
+use Rattle.std.proofs.lemmas.Bool.{or_parts}
 use Rattle.fifo_core.specs.History.{History}
 use Rattle.fifo_core.specs.declared.types.EndState.{EndState}
 use Rattle.fifo_core.specs.declared.types.EndState.TheVariants as ends
@@ -69,17 +70,13 @@ ends_all state tee seats given es k a = record {
 }
 
 -- the end states of outputs that were dead or not
-abbrev states_of : {S : Type 0} → List (SlaveEnd S) → List EndState
+abbrev pub states_of : {S : Type 0} → List (SlaveEnd S) → List EndState
 states_of es = map (λ e. e.state) es
 
 pub failed_by : (d : Bool) (st : EndState) → (d ≡ true → IsUnclosed st) → is_want st ≡ false → d ≡ true → is_failed st ≡ true
 failed_by d ends.Closed f w e = elim (f e) [ inl h ↦ absurd cc | inr h ↦ absurd cc ]
 failed_by d ends.Failed f w e = refl
 failed_by d ends.NoMemory f w e = absurd cc
-
-pub neither : (a b : Bool) → (a || b) ≡ false → (a ≡ false) × (b ≡ false)
-neither false b e = (refl, e)
-neither true b e = absurd cc
 
 pub found_by : (a f d x : Bool) (n : ℕ) (rest : Option ℕ) → (d ≡ true → f ≡ true) → (x ≡ true → is_some rest ≡ true) → ((a && d) || x) ≡ true → is_some (cond (a && f) (Some n) rest) ≡ true
 found_by true true d x n rest g h e = refl
@@ -95,7 +92,7 @@ first_found state given n [] (h ∷ hs) es a w e = absurd a
 first_found state given n (s ∷ ss) [] es a w e = absurd a
 first_found state given n (s ∷ ss) (h ∷ hs) [] a w e = absurd a
 first_found state given n (s ∷ ss) (h ∷ hs) (x ∷ es) a w e =
-    let none = neither (is_want x.state) (any_want (states_of es)) w in
+    let none = or_parts (is_want x.state) (any_want (states_of es)) w in
     found_by s.slave.abort (is_failed x.state) (is_dead s h) (any_both (aborts ss) (deads ss hs)) n (first_failed_from (n + 1) (aborts ss) (states_of es))
     (failed_by (is_dead s h) x.state a.0.given_up none.0) (first_found state given (n + 1) ss hs es a.1 none.1) e
 
@@ -112,7 +109,7 @@ all_failed state given [] (h ∷ hs) es a w e = absurd a
 all_failed state given (s ∷ ss) [] es a w e = absurd a
 all_failed state given (s ∷ ss) (h ∷ hs) [] a w e = absurd a
 all_failed state given (s ∷ ss) (h ∷ hs) (x ∷ es) a w e =
-    let none = neither (is_want x.state) (any_want (states_of es)) w in
+    let none = or_parts (is_want x.state) (any_want (states_of es)) w in
     both_by (is_dead s h) (all_of (deads ss hs)) (is_failed x.state) (list_all is_failed (states_of es)) (failed_by (is_dead s h) x.state a.0.given_up none.0) (all_failed state given ss hs es a.1 none.1) e
 
 pub either_found : (x y : Bool) (found : Option ℕ) (all : Bool) → (x ≡ true → is_some found ≡ true) → (y ≡ true → all ≡ true) → (x || y) ≡ true → is_some (failed_in found all) ≡ true

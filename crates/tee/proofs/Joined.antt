@@ -14,20 +14,20 @@ use Rattle.slave.specs.declared.run.WorkEnd.{WorkEnd}
 use Rattle.slave.specs.End.{EndView, EndedAll, IsUnclosed, end_view}
 use Rattle.slave.specs.Given.{Given}
 use Rattle.slave.specs.Handed.{Handed}
-use Rattle.slave.specs.LaneAccounts.{AccountsLane, AddsLane, Dealt, PassedOn}
+use Rattle.slave.specs.LaneAccounts.{AccountsLane, AddsLane, Dealt, PassedOn, SweptStretch}
 use Rattle.slave.specs.Origin.{Origin}
 use Rattle.slave.specs.Purpose.{IsFor}
 use Rattle.slave.specs.Task.{Task}
 use Rattle.slave.specs.Worked.{Worked}
 use Rattle.slave.proofs.Dealing.{lanes_deal}
 use Rattle.slave.proofs.GivenUp.{dead_unclosed}
+use Rattle.slave.proofs.Passing.{passed_on, stretch_of}
 use Rattle.tee.specs.Attends.{IsStarted}
 use Rattle.tee.specs.Rides.{Rides}
 use Rattle.tee.specs.RunEnds.{EndsThere}
 use Rattle.tee.specs.Seat.{Seat, chosen}
 use Rattle.tee.specs.declared.sender.Sender.{Sender}
 use Rattle.tee.proofs.Offering.{as_many}
-use Rattle.tee.proofs.Swept.{passed_on, stretch_of}
 
 -- what `settle` says of the two ends of a lane
 pub record Settled (s : Sender) (ended failed : Bool) (got : List Rattle.lane.specs.declared.msg.Msg.Msg) (numbers : List (ℕ × ℕ)) (counts : CountsSide) : Type 0 where
@@ -89,7 +89,7 @@ ends_there state infos given seat told s task w counts new short r st worked set
     let handed : Handed n.cap n.counts.limit L s.giver.given s.giver.refusals n.receipts.items = rw (r.cap, limit) r.offered.handed in
     let passed : PassedOn wf.given s.giver.given = rw whole.1 at (passed_on g o wf.given wf.ends.history w.taker.got w.taker.numbers wf.stretches) in
     let dealt : Dealt L wf.given w.taker.numbers n = lanes_deal L s.giver.given s.giver.refusals wf.given w.taker.numbers n handed overs settled.saw passed
-    (λ i v at. stretch_of g o wf.given wf.ends.history w.taker.got w.taker.numbers n.cap i v r.cap wf.stretches at) in
+    (λ i v at. (let one = stretch_of g o wf.given wf.ends.history w.taker.got w.taker.numbers i v wf.stretches at in (one.0, subst (λ (cap : ℕ). SweptStretch cap w.taker.numbers v wf.given) (sym r.cap) one.1))) in
     let many = as_many o.queue_size o.queue_bytes L s.giver.given s.giver.refusals s.receipts.items r.offered.handed in
     let k : EndsThere seat given told new = record {
       turns = wf.given;

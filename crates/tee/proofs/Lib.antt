@@ -16,7 +16,5 @@ pub mod Offering
 pub mod Places
 pub mod Riding
 pub mod RunFed
-pub mod Swept
 pub mod RunOpening
-pub mod LaneMaking
 pub mod Schedules

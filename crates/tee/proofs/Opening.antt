@@ -39,23 +39,12 @@ taken_by : (b : Bool) (n : ℕ) (rest : Option ℕ) → b ≡ false → cond b (
 taken_by true n rest e = absurd cc
 taken_by false n rest e = refl
 
-none_by : (b : Bool) (n : ℕ) (rest : Option ℕ) → b ≡ true → cond b (Some n) rest ≡ Some n
-none_by true n rest e = refl
-none_by false n rest e = absurd cc
-
 pub next_taken : {A : Type 0} (view : A → Slave) (infos : List StreamInfo) (xs : List A) (k : ℕ) (x : A) → k < length xs → length (chosen_streams (view (get_or xs k x)) infos) ≢ 0
     → first_without_from k infos (map view (drop k xs)) ≡ first_without_from (k + 1) infos (map view (drop (k + 1) xs))
 next_taken {A} view infos xs k x lt some =
     let front : drop k xs ≡ get_or xs k x ∷ drop (k + 1) xs = drop-cons xs k x lt ∙ rw add-one refl in
     ap (λ (zs : List A). first_without_from k infos (map view zs)) front
     ∙ taken_by (length (chosen_streams (view (get_or xs k x)) infos) == 0) k (first_without_from (k + 1) infos (map view (drop (k + 1) xs))) (grind (arith, nat_tests))
-
-pub next_none : {A : Type 0} (view : A → Slave) (infos : List StreamInfo) (xs : List A) (k : ℕ) (x : A) → k < length xs → length (chosen_streams (view (get_or xs k x)) infos) ≡ 0
-    → first_without_from k infos (map view (drop k xs)) ≡ Some k
-next_none {A} view infos xs k x lt none =
-    let front : drop k xs ≡ get_or xs k x ∷ drop (k + 1) xs = drop-cons xs k x lt ∙ rw add-one refl in
-    ap (λ (zs : List A). first_without_from k infos (map view zs)) front
-    ∙ none_by (length (chosen_streams (view (get_or xs k x)) infos) == 0) k (first_without_from (k + 1) infos (map view (drop (k + 1) xs))) (grind (arith, nat_tests))
 
 -- one of two lists side by side, from its other end
 pub record Split {A B : Type 0} (R : A → B → Type 0) (xs : List A) (ys : List B) (y : B) : Type 0 where

@@ -1,6 +1,5 @@
 -- An output that gets one packet more.
 use Rattle.std.proofs.Common.{◌≡◌, ◌≤◌, ◌+◌, ℕ, List, [], ◌∷◌, ◌++◌, length, length-append, append-nil, Option, Some, None, refl, sym, ◌∙◌, ap, subst, arith, ◌<◌, Fits, w64}
-use Rattle.std.specs.Option.{option_and_then}
 use Rattle.std.specs.List.{filter_map}
 use Rattle.std.proofs.lemmas.List.Elements.{filter_map-append}
 use Rattle.fifo_core.specs.History.{History, mode_of, mode_is_dead}
@@ -14,9 +13,6 @@ use Rattle.tee.specs.Choice.{choice}
 use Rattle.tee.specs.Seat.{Seat, chosen}
 use Rattle.tee.specs.Sits.{Sits, SitsOn}
 use Rattle.tee.specs.declared.output.TeeSlave.{TeeSlave}
-
-choice_at : Seat → Packet → Option Packet
-choice_at seat p = choice seat.origin.streams.streams.items seat.slave.chains p
 
 pub chosen_one : (seat : Seat) (given : List Packet) (q p : Packet) → Some p ≡ choice seat.origin.streams.streams.items seat.slave.chains q
     → chosen seat (given ++ q ∷ []) ≡ chosen seat given ++ p ∷ []

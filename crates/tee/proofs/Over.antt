@@ -49,9 +49,6 @@ module _ {S : Type 0} {ghosts : Ghosts S} (state : S → ShelfState) (infos : Li
     pub sit : AllSit state infos given seats_left histories_left rest
     pub same : stops (aborts seats) (deads seats histories) ≡ (any_both (aborts seats_left) (deads seats_left histories_left) || (all && all_of (deads seats_left histories_left)))
 
-  pub none_asked : (ss : List Seat) (hs : List History) (ts : List (TeeSlave S ghosts)) → AllSit state infos given ss hs ts → StillTo ss hs true ts
-  none_asked ss hs ts a = record { seats_left = ss; histories_left = hs; sit = a; same = refl }
-
   -- what an output that is asked says, whatever its seat
   abbrev pub Says : TeeSlave S ghosts → Bool → Type 0
   Says t dead = (g : Origin) (o : FifoOptions) (L : List Packet) (k : Keeps g o L (view_of state t.job)) → dead ≡ mode_is_dead (mode_of o k.history)

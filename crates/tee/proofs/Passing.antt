@@ -1,6 +1,7 @@
 -- A packet that no output filters.
 use Rattle.std.proofs.Common.{◌≡◌, List, [], ◌∷◌, false}
 use Rattle.std.specs.List.{list_any}
+use Rattle.std.proofs.lemmas.Bool.{or_parts}
 use Rattle.fifo_core.specs.History.{History}
 use Rattle.rmx_edge.specs.Shelf.{ShelfState}
 use Rattle.rmx_edge.specs.declared.shelf.Shelf.{Ghosts}
@@ -11,7 +12,6 @@ use Rattle.tee.specs.Route.{filters_in}
 use Rattle.tee.specs.Seat.{Seat, IsInput}
 use Rattle.tee.specs.Sits.{AllSit, AllSitOn, Passes, SitsOn}
 use Rattle.tee.specs.declared.output.TeeSlave.{TeeSlave}
-use Rattle.tee.proofs.Finish.{neither}
 
 module _ {S : Type 0} {ghosts : Ghosts S} (state : S → ShelfState) (infos : List StreamInfo) (given : List Packet) where
   -- each output may get it as it is, or not at all
@@ -23,7 +23,7 @@ module _ {S : Type 0} {ghosts : Ghosts S} (state : S → ShelfState) (infos : Li
   all_pass p (s ∷ ss) [] ts i e a = absurd a
   all_pass p (s ∷ ss) (h ∷ hs) [] i e a = absurd a
   all_pass p (s ∷ ss) (h ∷ hs) (t ∷ ts) i e a =
-      let none = neither (filters_in t.choice p.stream) (list_any (λ t. filters_in t.choice p.stream) ts) e in
+      let none = or_parts (filters_in t.choice p.stream) (list_any (λ t. filters_in t.choice p.stream) ts) e in
       (record { sits = a.0; unfiltered = none.0; taken = i }, all_pass p ss hs ts i none.1 a.1)
 
   pub all_passed : (ss : List Seat) (hs : List History) (ts : List (TeeSlave S ghosts)) → Each3 (SitsOn state infos given) ss hs ts → AllSitOn state infos given ss hs ts

@@ -3,14 +3,6 @@ use Rattle.std.proofs.Common.{◌≡◌, ℕ, zero, suc, ◌<◌, ◌+◌, List,
 use Rattle.tee.specs.Each.{Each3, Between3}
 
 module _ {A B C : Type 0} (P Q : A → B → C → Type 0) where
-  pub each_map : (f : (a : A) (b : B) (c : C) → P a b c → Q a b c) (us : List A) (bs : List B) (cs : List C) → Each3 P us bs cs → Each3 Q us bs cs
-  each_map f [] [] [] e = tt
-  each_map f [] [] (c ∷ cs) e = absurd e
-  each_map f [] (b ∷ bs) cs e = absurd e
-  each_map f (a ∷ us) [] cs e = absurd e
-  each_map f (a ∷ us) (b ∷ bs) [] e = absurd e
-  each_map f (a ∷ us) (b ∷ bs) (c ∷ cs) e = (f a b c e.0, each_map f us bs cs e.1)
-
   -- a place among the first
   abbrev pub Somewhere : (A → B → C → Type 0) → C → Type 0
   Somewhere R c = (a : A) × (b : B) × R a b c

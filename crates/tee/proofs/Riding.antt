@@ -1,19 +1,16 @@
 -- An output with a thread of its own, as packets come.
-use Rattle.std.proofs.Common.{◌≡◌, ◌+◌, ℕ, List, [], ◌∷◌, ◌++◌, length, length-append, Bool, true, false, Option, Some, None, refl, sym, ◌∙◌, ap, subst, arith, inl, inr}
-use Rattle.std.specs.Prelude.{is_some}
+use Rattle.std.proofs.Common.{◌≡◌, ◌+◌, ℕ, List, [], ◌∷◌, ◌++◌, length, length-append, Option, Some, None, sym, ◌∙◌, ap, subst, arith, inl, inr}
 use Rattle.std.specs.Arc.{arc_value}
 use Rattle.lane.specs.declared.msg.Msg.{Msg}
 use Rattle.lane.specs.Sides.{ReceiptSide}
-use Rattle.lane.specs.Told.{GiverNow, first_told}
+use Rattle.lane.specs.Told.{GiverNow}
 use Rattle.rmx_media.specs.declared.packet.Packet.{Packet}
 use Rattle.rmx_media.specs.declared.streams.StreamInfo.{StreamInfo}
 use Rattle.tee.specs.Choice.{choice}
 use Rattle.slave.specs.Handed.{message}
 use Rattle.tee.specs.Offers.{Offered}
-use Rattle.tee.specs.Keeps.{IsWithin}
-use Rattle.tee.specs.Rides.{Goes, Hands, Rides, SameEnd}
+use Rattle.tee.specs.Rides.{Goes, Hands, Rides}
 use Rattle.tee.specs.Seat.{Seat, chosen}
-use Rattle.tee.specs.Tracks.{ToldBy}
 use Rattle.tee.specs.declared.sender.Sender.{Sender}
 use Rattle.tee.proofs.Offering.{offered_given, offered_refused}
 use Rattle.tee.proofs.Outputs.{chosen_none, chosen_one}
@@ -50,11 +47,6 @@ left_by n m old new before after gone = elim gone [
     told = ap (λ (g : GiverNow). g.told) h.2.refused;
   }
 ]
-
-pub hands_same : (m : Msg) (old new : Sender) → Hands m old new → SameEnd old new
-hands_same m old new h =
-    let l = left_by (arc_value old.lane).cap m old.giver new.giver old.receipts.items new.receipts.items h.gone in
-    record { ring = l.ring; about = l.about; closed = l.closed }
 
 -- it was offered a packet that it takes
 pub rides_more : (infos : List StreamInfo) (given : List Packet) (asked : ℕ) (seat : Seat) (told : Option ℕ) (q p : Packet) (m : Msg) (old mid new : Sender) → Rides infos given asked seat told old
@@ -102,46 +94,6 @@ rides_same infos given asked seat told q s r e =
       knows = r.knows;
       within = r.within;
     }
-
-told_as : (told : Option ℕ) (n : ℕ) (said : Bool) → ((v : ℕ) → told ≡ Some v → said ≡ true) → said ≡ is_some (first_told told n said)
-told_as None n true f = refl
-told_as None n false f = refl
-told_as (Some v) n said f = f v refl
-
-told_by : (told : Option ℕ) (n : ℕ) (said : Bool) → ToldBy n told (first_told told n said)
-told_by None n true = inr (refl, refl)
-told_by None n false = inl refl
-told_by (Some v) n said = inl refl
-
-told_within : (told : Option ℕ) (n : ℕ) (said : Bool) → IsWithin told n → IsWithin (first_told told (n + 1) said) (n + 1)
-told_within None n true w = omega arith
-told_within None n false w = tt
-told_within (Some v) n said w = omega arith
-
--- it was asked once more
-pub rides_asked : (infos : List StreamInfo) (given : List Packet) (asked : ℕ) (seat : Seat) (told : Option ℕ) (old new : Sender) (said : Bool) → Rides infos given asked seat told old
-    → new.lane ≡ old.lane → new.receipts.items ≡ old.receipts.items → new.choice ≡ old.choice → new.count ≡ old.count → new.cap ≡ old.cap → new.drops ≡ old.drops → new.failed ≡ said
-    → new.giver ≡ record old.giver { asked = old.giver.asked + 1; told = first_told old.giver.told (old.giver.asked + 1) said }
-    → ((v : ℕ) → old.giver.told ≡ Some v → said ≡ true)
-    → (after : Option ℕ) × Rides infos given (asked + 1) seat after new × ToldBy (asked + 1) told after
-rides_asked infos given asked seat told old new said r lane receipts choice_is count cap drops failed giver again =
-    let now : first_told old.giver.told (old.giver.asked + 1) said ≡ first_told told (asked + 1) said = rw (r.told_is, r.asked_is) refl in (
-      first_told told (asked + 1) said,
-      record {
-        placed = rw choice_is r.placed;
-        threaded = r.threaded;
-        lane = rw (lane, giver) r.lane;
-        offered = rw (giver, receipts) (record { handed = r.offered.handed; counted = r.offered.counted; next = r.offered.next });
-        count = count ∙ r.count;
-        cap = cap ∙ r.cap;
-        drops = drops ∙ r.drops;
-        asked_is = rw (giver, r.asked_is) refl;
-        told_is = rw giver now;
-        knows = failed ∙ told_as told (asked + 1) said (λ v e. again v (r.told_is ∙ e));
-        within = told_within told asked said r.within;
-      },
-      told_by told (asked + 1) said,
-    )
 
 -- what it keeps of a packet is no part of that
 pub rides_as : (infos : List StreamInfo) (given : List Packet) (asked : ℕ) (seat : Seat) (told : Option ℕ) (old new : Sender) → Rides infos given asked seat told old

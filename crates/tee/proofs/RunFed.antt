@@ -21,9 +21,6 @@ use Rattle.tee.proofs.Places.{Renewed, each_renewed, each_then}
 use Rattle.tee.proofs.Watching.{known_before, known_now}
 
 module _ {S G : Type 0} {ghosts : Ghosts S} (state : S → ShelfState) (infos : List StreamInfo) (seats : List Seat) where
-  abbrev Given : List Packet → ℕ → List Track → List (Outlet S G ghosts) → Type 0
-  Given given asked ts os = Each3 (Attends state infos given asked false) seats ts os
-
   -- all were given a packet, and then asked
   pub record Both (given : List Packet) (asked : ℕ) (tracks : List Track) (mid last : List (Outlet S G ghosts)) : Type 0 where
     pub tracks_then : List Track

@@ -1,5 +1,6 @@
 -- The outputs of a run that are opened.
 use Rattle.std.proofs.Common.{◌≡◌, ◌≤◌, ◌+◌, ℕ, List, [], ◌∷◌, ◌++◌, map, Bool, true, false, Option, Some, None, refl, sym, ◌∙◌, ap, subst, arith, inl, inr}
+use Rattle.lane.specs.Ring.{one_if}
 use Rattle.std.specs.Prelude.{◌&&◌}
 use Rattle.std.specs.List.{AllZip}
 use Rattle.options.specs.Slave.{Slave}
@@ -26,7 +27,7 @@ use Rattle.tee.specs.Rides.{Rides}
 use Rattle.tee.specs.Route.{IsPlaced, IsRoute}
 use Rattle.tee.specs.RunKeeps.{IsCounted, inlined, is_threaded}
 use Rattle.tee.specs.Seat.{Seat}
-use Rattle.tee.specs.Tracks.{Track, Here, There, one_if}
+use Rattle.tee.specs.Tracks.{Track, Here, There}
 use Rattle.tee.specs.declared.berth.Berth.{Berth}
 use Rattle.tee.specs.declared.draft.Draft.{Draft}
 use Rattle.tee.specs.declared.lanes.LaneKit.{LaneKit}

@@ -56,7 +56,7 @@ longer state infos given (s ∷ ss) (h ∷ hs) (t ∷ ts) a =
     }
 
 -- how an output stands now
-stands_now : {S : Type 0} {ghosts : Ghosts S} (state : S → ShelfState) (infos : List StreamInfo) (given : List Packet) (u : ℕ) (s : Seat) (h : History) (t : TeeSlave S ghosts)
+pub stands_now : {S : Type 0} {ghosts : Ghosts S} (state : S → ShelfState) (infos : List StreamInfo) (given : List Packet) (u : ℕ) (s : Seat) (h : History) (t : TeeSlave S ghosts)
     → u ≡ length given → Sits state infos given s h t → Stood s given h u (is_dead s h)
 stands_now state infos given u s h t e sits = record {
   part = h;

@@ -1,5 +1,6 @@
 -- An output of a run before it has its shelf, and once it has it.
 use Rattle.std.specs.Prelude.{ℕ, ◌+◌, Bool, false, List, [], ◌∷◌, Option}
+use Rattle.lane.specs.Ring.{one_if}
 use Rattle.options.specs.Slave.{Slave}
 use Rattle.rmx_edge.specs.Shelf.{ShelfState}
 use Rattle.rmx_edge.specs.declared.shelf.Shelf.{Ghosts}
@@ -9,7 +10,7 @@ use Rattle.tee.specs.Draft.{IsDraft}
 use Rattle.tee.specs.Each.{Each3}
 use Rattle.tee.specs.LaneKits.{IsKitOf}
 use Rattle.tee.specs.Seat.{AreSeats, IsSeat, Seat}
-use Rattle.tee.specs.Tracks.{Track, one_if}
+use Rattle.tee.specs.Tracks.{Track}
 use Rattle.tee.specs.declared.berth.Berth.{Berth}
 use Rattle.tee.specs.declared.outlet.Outlet.{Outlet}
 use Rattle.tee.specs.declared.outlet.Outlet.TheVariants as outlet

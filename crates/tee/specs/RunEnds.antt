@@ -4,6 +4,7 @@ use Rattle.fifo_core.specs.History.{History, mode_of, mode_is_dead}
 use Rattle.rmx_edge.specs.Shelf.{ShelfState}
 use Rattle.rmx_media.specs.declared.packet.Packet.{Packet}
 use Rattle.lane.specs.declared.msg.Msg.{Msg}
+use Rattle.lane.specs.Ring.{one_if}
 use Rattle.slave.specs.declared.job.SlaveEnd.{SlaveEnd}
 use Rattle.slave.specs.declared.records.LaneNote.{LaneNote}
 use Rattle.slave.specs.End.{EndView, EndedAll, EndedBy, IsUnclosed, end_view}
@@ -13,7 +14,7 @@ use Rattle.slave.specs.Stretches.{Stretches}
 use Rattle.tee.specs.Each.{Each3}
 use Rattle.tee.specs.Keeps.{IsWithin}
 use Rattle.tee.specs.Seat.{Seat, chosen}
-use Rattle.tee.specs.Tracks.{Track, Here, There, StopsOn, known_dead, one_if}
+use Rattle.tee.specs.Tracks.{Track, Here, There, StopsOn, known_dead}
 
 -- The end of an output that the reader wrote. It is marked as inline where it was to have a thread.
 pub record EndsHere (seat : Seat) (given : List Packet) (h : History) (e : EndView) : Type 0 where

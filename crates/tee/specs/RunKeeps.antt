@@ -1,5 +1,6 @@
 -- What clauses see of a run's outputs.
 use Rattle.std.specs.Prelude.{◌≡◌, ◌⊎◌, ℕ, ◌+◌, ◌-◌, ◌^◌, ◌≤◌, ◌&&◌, not, Bool, true, false, List, [], ◌∷◌, length, map}
+use Rattle.lane.specs.Ring.{one_if}
 use Rattle.rmx_edge.specs.Shelf.{ShelfState}
 use Rattle.rmx_edge.specs.declared.shelf.Shelf.{Ghosts}
 use Rattle.rmx_media.specs.declared.packet.Packet.{Packet}
@@ -7,7 +8,6 @@ use Rattle.rmx_media.specs.declared.streams.StreamInfo.{StreamInfo}
 use Rattle.tee.specs.Attends.{StandsOn}
 use Rattle.tee.specs.Keeps.{stopped_by}
 use Rattle.tee.specs.Seat.{Seat}
-use Rattle.tee.specs.Tracks.{one_if}
 use Rattle.tee.specs.declared.outlet.Outlet.{Outlet}
 use Rattle.tee.specs.declared.outlet.Outlet.TheVariants as outlet
 use Rattle.tee.specs.declared.run.TeeRun.{TeeRun}

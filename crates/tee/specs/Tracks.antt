@@ -15,10 +15,6 @@ pub data Track : Type 0 where
   -- a thread writes it, and the reader was told by this question, if by any, that it was given up
   There : Option ℕ → Track
 
-abbrev pub one_if : Bool → ℕ
-one_if true = 1
-one_if false = 0
-
 -- whether a thread writes it
 abbrev pub is_there : Track → Bool
 is_there (Here h) = false

@@ -1,5 +1,5 @@
 // An output before it has its shelf.
-ghost use Rattle.std.specs.Prelude.{◌≡◌, ◌≢◌, ◌≤◌, length, option_map, IfOk, IfErr, IfSome};
+ghost use Rattle.std.specs.Prelude.{◌≡◌, ◌≢◌, length, option_map, IfOk, IfErr, IfSome};
 ghost use Rattle.options.specs.Slave.{view};
 ghost use Rattle.options.specs.Valid.{IsValid};
 ghost use Rattle.rmx_media.specs.Streams.{AreInfos, CanMux, IsScript};

@@ -1,5 +1,5 @@
 // The lanes of a run's outputs, made before any thread is started.
-ghost use Rattle.std.specs.Prelude.{◌≡◌, IfOk};
+ghost use Rattle.std.specs.Prelude.{IfOk};
 ghost use Rattle.options.specs.Slave.{view};
 ghost use Rattle.options.specs.Valid.{IsValid};
 ghost use Rattle.rmx_media.specs.Streams.{AreInfos};

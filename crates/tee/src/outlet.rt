@@ -1,5 +1,5 @@
 // One output of a run.
-ghost use Rattle.std.specs.Prelude.{◌≡◌, ◌<◌, ◌≤◌, ◌+◌, ◌++◌, ◌∷◌, [], ◌^◌, ℕ, List, false, length, OnOk};
+ghost use Rattle.std.specs.Prelude.{◌≡◌, ◌<◌, ◌+◌, ◌++◌, ◌∷◌, [], ◌^◌, ℕ, List, false, length, OnOk};
 ghost use Rattle.fifo_core.specs.History.{History};
 ghost use Rattle.rmx_media.specs.Config.{kind_of};
 ghost use Rattle.rmx_media.specs.Fits.{Fits};

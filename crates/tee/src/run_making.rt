@@ -1,5 +1,5 @@
 // The making of a run's outputs.
-ghost use Rattle.std.specs.Prelude.{◌≡◌, ◌≤◌, [], ℕ, List, Option, All, None, Some, false, length, map, option_map, IfErr, IfOk};
+ghost use Rattle.std.specs.Prelude.{◌≡◌, ◌≤◌, [], ℕ, List, Option, All, None, Some, false, length, option_map, IfErr, IfOk};
 ghost use Rattle.std.specs.List.{AllZip};
 ghost use Rattle.options.specs.Slave.{Slave};
 ghost use Rattle.options.specs.Valid.{IsValidPlan};
@@ -81,6 +81,7 @@ impl<S: Shelf + Drop + Send + 'static, G: Gate + Drop + Send + Sync + 'static> T
         ensures infos { IfOk result (λ t. infos_of t ≡ infos.now) }
         ensures taken { IfOk result (λ t. first_without infos.now (plan_view plan.now).slaves ≡ None) }
         ensures back { IfErr result (λ r. r.shelves.items ≡ shelves.items) }
+        ensures unasked { IfErr result (λ r. spawner.new ≡ spawner.old) }
         ensures none { IfErr result (λ r. IsNoneFault r.fault (first_without infos.now (plan_view plan.now).slaves)) }
     {
         let berths = match berths_of(alloc, plan.slaves.as_slice(), infos, script, &gate) {

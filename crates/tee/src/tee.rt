@@ -58,7 +58,7 @@ pub struct TeeEnd<S> {
 }
 
 impl<S: Shelf> Tee<S> {
-    ghost use Rattle.tee.specs.Keeps.{Keeps, SameBut, Stands, dead_in, infos_of, spare_of, stopped_by, stopped_with};
+    ghost use Rattle.tee.specs.Keeps.{Keeps, SameBut, dead_in, infos_of, spare_of, stopped_with};
 
     // Each output writes what was left of a packet for it.
     fn give(&mut self, p: &Packet, filtered: &[Filtered])
