@@ -1,17 +1,16 @@
 -- Texts, cut at a separator.
-use Rattle.std.proofs.Common.{◌≡◌, ℕ, zero, suc, ◌+◌, ◌-◌, ◌*◌, ◌^◌, ◌<◌, ◌≤◌, Bool, true, false, List, [], ◌∷◌, ◌++◌, length, take, drop, get_or, refl, sym, ap, ◌∙◌, arith, add-one, drop-cons, eq-eqb, Option, None, Some, Result, Ok, Err, append_assoc, lit<, min}
-use Rattle.std.specs.Prelude.{◌==◌, ◌&&◌, ◌||◌, nat_lt, nat_le, if◌then◌else◌}
+use Rattle.std.proofs.Common.{◌≡◌, ℕ, zero, suc, ◌+◌, ◌*◌, ◌^◌, ◌<◌, ◌≤◌, Bool, true, false, List, [], ◌∷◌, ◌++◌, length, take, drop, get_or, refl, sym, ap, ◌∙◌, arith, add-one, drop-cons, eq-eqb, Option, None, Some, Result, Ok, Err, append_assoc, lit<}
+use Rattle.std.specs.Prelude.{◌==◌, ◌&&◌, ◌||◌, nat_lt, if◌then◌else◌}
 use Rattle.std.specs.Option.{option_map}
 use denote.Ref.{Bor}
 use Rattle.std.specs.List.{list_any, list_all}
 use Rattle.std.proofs.lemmas.List.{take_more, drop-drop}
-use Rattle.std.proofs.lemmas.List.Sums.{fold_more}
 use Rattle.std.proofs.lemmas.Bool.Decides.{nat_tests}
 use Rattle.std.proofs.Math.Nat.{pow-succ'}
 use Rattle.bsf_chain.specs.declared.filter.Filter.{Filter}
 use Rattle.bsf_chain.specs.declared.filter.BsfFault.{BsfFault}
 use Rattle.bsf_chain.specs.declared.filter.BsfFault.TheVariants.{BadArgument}
-use Rattle.bsf_chain.specs.Parse.{before, behind, onto_first, split_by, filter_of, with_filter, and_then, filters_of, mask_from, is_digit, value_of, number_of, to_type, type_in}
+use Rattle.bsf_chain.specs.Parse.{before, behind, onto_first, split_by, filter_of, with_filter, and_then, filters_of, mask_from}
 
 other : (m n : ℕ) → (m ≡ n → ⊥) → (m == n) ≡ false
 other m n h = grind (arith, nat_tests)
@@ -152,108 +151,11 @@ pub onto_none : (others : Result (List Filter) BsfFault) → onto [] others ≡ 
 onto_none (Ok filters) = refl
 onto_none (Err fault) = refl
 
-and_false : (b : Bool) → (b && false) ≡ false
-and_false true = refl
-and_false false = refl
-
--- one that fails
-pub all_fails : (test : ℕ → Bool) (xs : List ℕ) (i : ℕ) → i < length xs → test (get_or xs i 0) ≡ false → list_all test xs ≡ false
-all_fails test [] i h e = absurd (omega (arith, h))
-all_fails test (x ∷ xs) zero h e = ap (λ (b : Bool). b && list_all test xs) e
-all_fails test (x ∷ xs) (suc i) h e = ap (λ (b : Bool). test x && b) (all_fails test xs i (omega (arith, h)) e) ∙ and_false (test x)
-
-all_append : (test : ℕ → Bool) (xs : List ℕ) (y : ℕ) → list_all test xs ≡ true → test y ≡ true → list_all test (xs ++ y ∷ []) ≡ true
-all_append test [] y h e = ap (λ (b : Bool). b && true) e
-all_append test (x ∷ xs) y h e = by (test x) (all_append test xs y) h
-  where
-    by : (b : Bool) → (list_all test xs ≡ true → test y ≡ true → list_all test (xs ++ y ∷ []) ≡ true) → (b && list_all test xs) ≡ true → (b && list_all test (xs ++ y ∷ [])) ≡ true
-    by true rec k = rec k e
-    by false rec k = k
-
-pub all_more : (test : ℕ → Bool) (xs : List ℕ) (i : ℕ) → i < length xs → list_all test (take i xs) ≡ true → test (get_or xs i 0) ≡ true → list_all test (take (i + 1) xs) ≡ true
-all_more test xs i h k e = ap (list_all test) (take_more xs i 0 h) ∙ all_append test (take i xs) (get_or xs i 0) k e
-
-digit_low : (c : ℕ) → c < 48 → is_digit c ≡ false
-digit_low c h = grind (arith, nat_tests)
-
-digit_high : (c : ℕ) → 57 < c → is_digit c ≡ false
-digit_high c h = grind (arith, nat_tests)
-
-pub digit_in : (c : ℕ) → 48 ≤ c → c ≤ 57 → is_digit c ≡ true
-digit_in c h k = grind (arith, nat_tests)
-
--- texts that are no type
-pub type_short : (text : List ℕ) → length text ≡ 0 → None ≡ type_in text
-unfolding type_in number_of
-type_short text h = sym (ap (λ (b : Bool). to_type (if b || nat_lt 19 (length text) then None else if list_all is_digit text then Some (value_of text) else None)) (eq-eqb (length text) 0 h))
-
-or_true : (b : Bool) → (b || true) ≡ true
-or_true true = refl
-or_true false = refl
-
 is_more : (m n : ℕ) → m < n → nat_lt m n ≡ true
 is_more m n h = grind (arith, nat_tests)
 
 not_more : (m n : ℕ) → n ≤ m → nat_lt m n ≡ false
 not_more m n h = grind (arith, nat_tests)
-
-pub type_long : (text : List ℕ) → 19 < length text → None ≡ type_in text
-unfolding type_in number_of
-type_long text h =
-    sym (ap (λ (b : Bool). to_type (if b then None else if list_all is_digit text then Some (value_of text) else None))
-    (ap (λ (b : Bool). (length text == 0) || b) (is_more 19 (length text) h) ∙ or_true (length text == 0)))
-
-odd_by : (b : Bool) (v : Option ℕ) → v ≡ None → to_type (if b then None else v) ≡ None
-odd_by true v e = refl
-odd_by false v e = ap to_type e
-
-odd : (text : List ℕ) → list_all is_digit text ≡ false → None ≡ type_in text
-unfolding type_in number_of
-odd text h =
-    sym (odd_by ((length text == 0) || nat_lt 19 (length text)) (if list_all is_digit text then Some (value_of text) else None)
-    (ap (λ (b : Bool). if b then Some (value_of text) else None) h))
-
-pub type_low : (text : List ℕ) (i : ℕ) → i < length text → get_or text i 0 < 48 → None ≡ type_in text
-type_low text i h k = odd text (all_fails is_digit text i h (digit_low (get_or text i 0) k))
-
-pub type_high : (text : List ℕ) (i : ℕ) → i < length text → 57 < get_or text i 0 → None ≡ type_in text
-type_high text i h k = odd text (all_fails is_digit text i h (digit_high (get_or text i 0) k))
-
-shape : (text : List ℕ) → (length text ≡ 0 → ⊥) → length text ≤ 19 → ((length text == 0) || nat_lt 19 (length text)) ≡ false
-shape text h k =
-    ap (λ (b : Bool). b || nat_lt 19 (length text)) (other (length text) 0 h) ∙ not_more 19 (length text) k
-
-is_le : (m n : ℕ) → m ≤ n → nat_le m n ≡ true
-is_le m n h = grind (arith, nat_tests)
-
-not_le : (m n : ℕ) → n < m → nat_le m n ≡ false
-not_le m n h = grind (arith, nat_tests)
-
-known : (text : List ℕ) → (length text ≡ 0 → ⊥) → length text ≤ 19 → list_all is_digit text ≡ true → type_in text ≡ to_type (Some (value_of text))
-unfolding type_in number_of
-known text h k d =
-    ap (λ (b : Bool). to_type (if b then None else if list_all is_digit text then Some (value_of text) else None)) (shape text h k)
-    ∙ ap (λ (b : Bool). to_type (if b then Some (value_of text) else None)) d
-
--- texts that are numbers
-pub type_small : (text : List ℕ) (v : ℕ) → (length text ≡ 0 → ⊥) → length text ≤ 19 → list_all is_digit text ≡ true → v ≡ min 32 (value_of text) → v < 32
-    → Some v ≡ type_in text
-type_small text v h k d e s =
-    let same : v ≡ value_of text = omega arith in
-    let low : value_of text ≤ 31 = omega arith in
-    sym (known text h k d ∙ ap (λ (b : Bool). if b then Some (value_of text) else None) (is_le (value_of text) 31 low) ∙ ap (λ n. Some n) (sym same))
-
-pub type_large : (text : List ℕ) (v : ℕ) → (length text ≡ 0 → ⊥) → length text ≤ 19 → list_all is_digit text ≡ true → v ≡ min 32 (value_of text) → 32 ≤ v
-    → None ≡ type_in text
-type_large text v h k d e s =
-    let high : 31 < value_of text = omega arith in
-    sym (known text h k d ∙ ap (λ (b : Bool). if b then Some (value_of text) else None) (not_le (value_of text) 31 high))
-
--- one more digit
-pub value_more : (text : List ℕ) (i v : ℕ) → i < length text → v ≡ min 32 (value_of (take i text)) → min (10 * v + (get_or text i 0 - 48)) 32 ≡ min 32 (value_of (take (i + 1) text))
-value_more text i v h e =
-    let more : value_of (take (i + 1) text) ≡ 10 * value_of (take i text) + (get_or text i 0 - 48) = fold_more (λ n c. 10 * n + (c - 48)) 0 text i 0 h in
-    omega arith
 
 -- what is behind a separator, as a slice
 pub some_behind : (r : Option (Bor (List ℕ))) (a : Bor (List ℕ)) (b : Option (List ℕ)) → r ≡ Some a → option_map (λ (x : Bor (List ℕ)). x.now) r ≡ b → Some a.now ≡ b

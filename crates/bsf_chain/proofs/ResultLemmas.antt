@@ -260,25 +260,3 @@ result_fits s filters p few b f =
 pub if_ok : {A E : Type 0} (r : Result A E) (x : A) (P : A → Type 0) → IfOk r (λ y. y ≡ x) → P x → IfOk r P
 if_ok (Ok y) x P e h = subst P (sym e) h
 if_ok (Err f) x P e h = tt
-
--- the result by the kind of the configuration
-pub result_avc : (filters : List Filter) (p : Packet) (config : AvcConfig) (acts : Bool) → p.config ≡ Avc config → acts ≡ list_any acts_on_video filters
-    → result_of filters p ≡ (if acts then video_result filters p config else Some p)
-unfolding result_of
-result_avc filters p config acts e a =
-    ap (result_by filters p) e ∙ ap (λ (b : Bool). if b then video_result filters p config else Some p) (sym a)
-
-pub result_aac : (filters : List Filter) (p : Packet) (config : AacConfig) (acts : Bool) → p.config ≡ Aac config → acts ≡ list_any acts_on_audio filters
-    → result_of filters p ≡ (if acts then Some (in_form p Adts (adts_frame config p.payload)) else Some p)
-unfolding result_of
-result_aac filters p config acts e a =
-    ap (result_by filters p) e ∙ ap (λ (b : Bool). if b then Some (in_form p Adts (adts_frame config p.payload)) else Some p) (sym a)
-
-pub avc_read : (p : Packet) (config : AvcConfig) → p.config ≡ Avc config → IsAsRead p.config → IsReadAvc config
-avc_read p config e h = subst IsAsRead e h
-
-pub avc_valid : (p : Packet) (config : AvcConfig) → p.config ≡ Avc config → IsPayload p.config Native p.payload → is_valid config.length_size p.payload ≡ true
-avc_valid p config e h = subst (λ (c : Config). IsPayload c Native p.payload) e h
-
-pub aac_small : (p : Packet) (config : AacConfig) → p.config ≡ Aac config → IsPayload p.config Native p.payload → length p.payload ≤ 8184
-aac_small p config e h = subst (λ (c : Config). IsPayload c Native p.payload) e h

@@ -1,8 +1,8 @@
 // Chains.
-ghost use Rattle.std.specs.Prelude.{◌≡◌, ℕ, List, ◌+◌, ◌≤◌, ◌++◌, [], true, length, IfOk, IfSome, IfNone, ◌<◌};
+ghost use Rattle.std.specs.Prelude.{◌≡◌, List, ◌+◌, ◌≤◌, ◌++◌, [], true, length, IfOk, IfSome, IfNone, ◌<◌};
 ghost use Rattle.std.specs.Option.{SomeIff};
 ghost use Rattle.bsf_chain.specs.Apply.{result_of, IsKept};
-ghost use Rattle.bsf_chain.specs.Chain.{are_keepers, is_keeper as keeper};
+ghost use Rattle.bsf_chain.specs.Chain.{are_keepers};
 ghost use Rattle.bsf_chain.specs.Parse.{chain_of};
 ghost use Rattle.rmx_media.specs.Config.{kind_of, IsAsRead};
 ghost use Rattle.rmx_media.specs.Fits.{IsPayload, Fits};

@@ -1,5 +1,5 @@
 // Reading a chain's text.
-ghost use Rattle.std.specs.Prelude.{◌≡◌, ◌≤◌, ◌<◌, ◌^◌, not, is_some, Ok, Err, IfOk, IfErr, if◌then◌else◌};
+ghost use Rattle.std.specs.Prelude.{◌≡◌, ◌≤◌, ◌<◌, not, is_some, Ok, Err, IfOk, IfErr, if◌then◌else◌};
 ghost use Rattle.std.specs.Option.{option_map};
 ghost use Rattle.bsf_chain.specs.Parse.{chain_of, filter_of, filter_named, alone as alone_of, units_filter as units_filter_of, units_argument as units_argument_of, dump_filter as dump_filter_of, dump_argument as dump_argument_of, dump_by, types_by, are_types as types_are, has_type as type_is_there, range_of, range_from, range_to as range_to_of, in_range, type_in, mask_of};
 
