@@ -6,7 +6,7 @@ use Rattle.std.proofs.lemmas.Int.{ints}
 use Rattle.std.proofs.lemmas.List.Sums.{fold-append}
 use Rattle.rmx_media.specs.declared.packet.Packet.{Packet}
 use Rattle.interleaver.specs.Interleave.{put_in, is_before, is_over, has_all, may_go}
-use Rattle.interleaver.specs.Queues.{IsQueue, lined, front_dts, second_leads, is_past, goes_by, TakesHead, Pending, Pops, Pushed, goes, last_of}
+use Rattle.interleaver.specs.Queues.{IsQueue, lined, front_dts, second_leads, is_past, goes_by, TakesHead, Pending, Pops, Pushed, last_of}
 use Rattle.std.specs.Option.{option_to_list}
 
 -- no later packet of a stream with the same or a lower number goes before
@@ -60,10 +60,6 @@ swap_places p y (x ∷ xs) a b =
     (flips p y a b) (through p y x) (through y p x)
     ∙ ap (λ (l : List Packet). if is_before p x then (if is_before y p then y ∷ p ∷ x ∷ xs else p ∷ (if is_before y x then y ∷ x ∷ xs else x ∷ put_in y xs)) else (if is_before y x then y ∷ x ∷ put_in p xs else x ∷ l)) (swap_places p y xs a b)
     ∙ sym (push_if (is_before p x) y x (p ∷ x ∷ xs) (x ∷ put_in p xs))
-
-each_stream : ℕ → List Packet → Type 0
-each_stream s [] = Unit {0}
-each_stream s (x ∷ xs) = (x.stream ≡ s) × each_stream s xs
 
 any_if : (t : Packet → Bool) (b : Bool) (u v : List Packet) → list_any t (if b then u else v) ≡ (if b then list_any t u else list_any t v)
 any_if t true u v = refl
@@ -292,16 +288,6 @@ pops old (Some p) rest t h = (rw h (yes old.finished (may_go old.streams old.del
     yes : (b g : Bool) → (b || g) ≡ true → ((b && true) || g) ≡ true
     yes true g e = refl
     yes false g e = e
-
-pub pops_none : (old : Pending) → (old.finished || may_go old.streams old.delta old.pending) ≡ false → goes old ≡ false
-pops_none old e = no old.finished (may_go old.streams old.delta old.pending) (is_some (front_dts old.pending)) e
-  where
-    no : (b g s : Bool) → (b || g) ≡ false → ((b && s) || g) ≡ false
-    no true g s e = absurd (not_true e)
-      where
-        not_true : true ≡ false → ⊥
-        not_true h = cc
-    no false g s e = e
 
 pub pushed_first : (n delta : ℕ) (l m d : ℤ) (fin : Bool) (p : Packet) (a a' b : List Packet) → p.stream ≡ 0 → l ≤ℤ p.dts → IsQueue 0 l a → IsQueue 1 m b → d ≡ p.dts → a' ≡ a ++ p ∷ [] →
     Pushed p record { streams = n; delta = delta; pending = lined a b; first_last = l; second_last = m; finished = fin } record { streams = n; delta = delta; pending = lined a' b; first_last = d; second_last = m; finished = fin }

@@ -154,16 +154,6 @@ carried_pop None old new pushed out h c = (
   λ f. c.whole ∙ ap (λ (l : List Packet). out ++ l) (nothing_left old.finished (may_go old.streams old.delta old.pending) old.pending f h.0) ∙ append_nil out,
 )
 
-pub carried_end : (old : Pending) (pushed out : List Packet) → Carries pushed out old → Carries pushed out (record old { finished = true })
-carried_end old pushed out c = record { some_stream = c.some_stream; few = c.few; lined = λ f. absurd (no f); whole = c.whole; last = last }
-  where
-    no : true ≡ false → ⊥
-    no e = cc
-
-    last : (stream : ℕ) → stream < 2 → last_of (record old { finished = true }) stream ≡ last_dts stream pushed
-    last zero s = c.last zero s
-    last (suc stream) s = c.last (suc stream) s
-
 pub emitted_begins : (n delta : ℕ) (packets more : List Packet) → (rest : List Packet) × (interleave n delta (packets ++ more) ≡ emitted n delta packets ++ rest)
 emitted_begins n delta packets more =
     let a = emitted_adds n delta packets more in

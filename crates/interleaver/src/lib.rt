@@ -1,7 +1,7 @@
 //! Packets of several streams in one order.
 #![tactic(auto)]
 
-ghost use Rattle.std.specs.Prelude.{◌≡◌, ◌<◌, ◌≤ℤ◌, [], false, true, OnOk, OnErr, IfErr, IfOk, negsuc, List, ◌∷◌, ◌++◌, ◌^◌};
+ghost use Rattle.std.specs.Prelude.{◌≡◌, ◌<◌, ◌≤ℤ◌, [], false, true, OnOk, OnErr, IfErr, IfOk, negsuc, List, ◌∷◌, ◌++◌};
 ghost use Rattle.interleaver.specs.Queues.{Pending, goes, last_of, Pushed, Pops, Carries, Gives};
 ghost use Rattle.rmx_media.specs.declared.packet.Packet.{Packet};
 
@@ -16,6 +16,7 @@ use std::alloc::Global;
 use std::collections::VecDeque;
 use std::marker::Model;
 
+/// Holds the packets of one or two streams until their turn by decoding time comes.
 #[derive(Drop)]
 pub struct Interleaver {
     streams: u32,
