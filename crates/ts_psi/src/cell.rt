@@ -1,5 +1,5 @@
 //! Cells, the 188 bytes that ISO/IEC 13818-1 calls a transport packet (2.4.3.2), and what is put into them.
-ghost use Rattle.std.specs.Prelude.{◌≡◌, ◌+◌, ◌-◌, ◌<◌, ◌≤◌, length, take, drop, ◌++◌};
+ghost use Rattle.std.specs.Prelude.{◌≡◌, ◌+◌, ◌<◌, ◌≤◌, length, take, drop, ◌++◌};
 ghost use Rattle.ts_psi.specs.Cell.{stuffing, table_cell as table_cell_of};
 ghost use Rattle.rmx_media.specs.Bits.{bytes_of};
 ghost use Rattle.ts_psi.specs.Crc.{crc as crc_of};

@@ -1,5 +1,5 @@
 // The checksum of a section, a byte at a time.
-ghost use Rattle.std.specs.Prelude.{◌≡◌, ◌*◌, ◌^◌, ℕ};
+ghost use Rattle.std.specs.Prelude.{◌≡◌, ◌*◌, ◌^◌};
 ghost use Rattle.ts_psi.specs.Crc.{crc as crc_of, byte_step};
 
 // What the eight bits of a byte 0 make of a register whose upper byte is the index, and the rest 0.
