@@ -1,10 +1,10 @@
 //! Lists of segments.
 
-ghost use Rattle.std.specs.Prelude.{◌≡◌, ◌<◌, ◌≤◌, ◌+◌, ◌^◌, ◌∷◌, [], map, length, true, false, All, OnOk};
+ghost use Rattle.std.specs.Prelude.{◌≡◌, ◌<◌, ◌+◌, ◌∷◌, [], map, length, true, false, All, OnOk};
 ghost use Rattle.rmx_edge.specs.Run.{Runs};
 ghost use Rattle.rmx_edge.specs.Shelf.{Write};
 ghost use Rattle.playlist.specs.declared.list.ListKind.TheVariants.{M3u8};
-ghost use Rattle.playlist.specs.List.{IsInRange, seconds_up, target_duration, first_number, head_lines, playlist_heads, head_calls, entry_calls, tail_calls, list_calls};
+ghost use Rattle.playlist.specs.List.{IsInRange, seconds_up, target_duration, head_lines, playlist_heads, head_calls, entry_calls, tail_calls, list_calls};
 
 use crate::Template;
 use crate::line::{csv_line, duration, duration_line, name_line, number_line};

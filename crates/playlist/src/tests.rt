@@ -1,3 +1,4 @@
+// Names and lists by worked examples.
 ghost use Rattle.std.specs.Prelude.{◌<◌, ◌^◌, pos, neg_ℤ, ◌≤ℤ◌, length, All};
 ghost use Rattle.playlist.specs.List.{IsInRange};
 
