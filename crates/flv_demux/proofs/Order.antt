@@ -1,6 +1,6 @@
 -- The dts of a stream's packets don't fall, and each packet is of a stream.
-use Rattle.std.proofs.Common.{◌≡◌, ℕ, ◌<◌, Bool, true, false, not, List, sym, refl, subst, Option, Some, None, arith}
-use Rattle.std.specs.Prelude.{if◌then◌else◌, ℤ, ◌≤ℤ◌, IfSome}
+use Rattle.std.proofs.Common.{◌≡◌, ℕ, Bool, true, false, not, List, refl, Option, Some, None, arith}
+use Rattle.std.specs.Prelude.{if◌then◌else◌, ℤ, ◌≤ℤ◌}
 use Rattle.std.specs.Int.{int_max}
 use Rattle.std.proofs.lemmas.Int.{ints}
 use Rattle.rmx_media.specs.declared.packet.Packet.{Packet}
@@ -8,7 +8,6 @@ use Rattle.rmx_media.specs.declared.config.Config.{Config}
 use Rattle.rmx_media.specs.Config.{kind_of}
 use Rattle.flv_demux.specs.declared.deal.Kinds.{Kinds}
 use Rattle.rmx_media.specs.declared.streams.Kind.{Kind}
-use Rattle.rmx_media.specs.declared.streams.Kind.TheVariants.{Video, Audio}
 use Rattle.flv_tags.specs.declared.tag.Tag.{Tag}
 use Rattle.flv_demux.specs.declared.deal.Desk.{Desk}
 use Rattle.flv_demux.specs.declared.deal.Meaning.{Meaning}
@@ -16,8 +15,8 @@ use Rattle.flv_demux.specs.declared.deal.Meaning.TheVariants.{Counted, Configure
 use Rattle.flv_demux.specs.declared.deal.Outcome.{Outcome}
 use Rattle.flv_demux.specs.declared.deal.Outcome.TheVariants as outcome
 use Rattle.flv_demux.specs.Meaning.{meaning}
-use Rattle.flv_demux.specs.Probe.{has, number_of_stream, stream_count}
-use Rattle.flv_demux.specs.Deal.{seen, packet_in, outcome_of, outcome_by, media_outcome, is_valid, repeats}
+use Rattle.flv_demux.specs.Probe.{has, number_of_stream}
+use Rattle.flv_demux.specs.Deal.{seen, outcome_of, outcome_by, media_outcome, is_valid, repeats}
 
 -- a packet is of a stream that is there, and behind what was seen of it
 pub record InOrder (s : Kinds) (d : Desk) (p : Packet) : Type 0 where
@@ -61,29 +60,3 @@ by_meaning s d stamp (Media kind key composition payload) = by_has s d kind (has
 -- the outcome of a tag is in order
 pub ordered : (s : Kinds) (d : Desk) (tag : Tag) → Ordered s d (outcome_of s d tag)
 ordered s d tag = by_meaning s d tag.stamp (meaning tag)
-
-in_order : (s : Kinds) (d : Desk) (o : Outcome) → Ordered s d o → IfSome (packet_in o) (InOrder s d)
-in_order s d (outcome.Counted r) h = tt
-in_order s d (outcome.Forces config) h = tt
-in_order s d (outcome.Gives kind p) h = record { kind = kind; there = h.0; stream = h.1; order = h.2 }
-
-pub packet_ordered : (s : Kinds) (d : Desk) (tag : Tag) → IfSome (packet_in (outcome_of s d tag)) (InOrder s d)
-packet_ordered s d tag = in_order s d (outcome_of s d tag) (ordered s d tag)
-
--- and its stream is one of those that are there
-pub of_a_stream : (s : Kinds) (d : Desk) (p : Packet) → InOrder s d p → p.stream < stream_count s
-of_a_stream s d p i = subst (λ (n : ℕ). n < stream_count s) (sym i.stream) (below s.video s.audio i.kind i.there)
-  where
-    below : (v a : Bool) (k : Kind) → has record { video = v; audio = a } k ≡ true → number_of_stream record { video = v; audio = a } k < stream_count record { video = v; audio = a }
-    below true true Video t = omega arith
-    below true false Video t = omega arith
-    below false a Video t = absurd (no t)
-      where
-        no : false ≡ true → ⊥
-        no h = cc
-    below true true Audio t = omega arith
-    below false true Audio t = omega arith
-    below v false Audio t = absurd (no t)
-      where
-        no : false ≡ true → ⊥
-        no h = cc

@@ -21,10 +21,6 @@ use Rattle.flv_demux.specs.State.{Core, Demuxed, IsReadable}
 use Rattle.flv_demux.specs.Steps.{ReadsOne, PassesOn, Steps, LooksAtNext, Decides, is_cut, core_at}
 use Rattle.flv_demux.proofs.Demuxing.{on, kept, got, seen_next, all_looked, decided, sure_readable}
 
--- where the kinds of streams are known
-pub through_none : (fed : List ℕ) (done : List Tag) (ended : Bool) (s : Core) (k : Kinds) → s.known ≡ Some k → has_stream k ≡ false → Demuxed fed done s → Steps (Err demux.NoStreams) fed done ended s
-through_none fed done ended s k known none m = (m, record { kinds = k; known = known; none = none })
-
 -- nothing waits
 nothing : (done : List Tag) (waiting : List Tag) → waiting ≡ [] → done ++ waiting ≡ done
 nothing done waiting e = ap (λ (l : List Tag). done ++ l) e ∙ append-nil done

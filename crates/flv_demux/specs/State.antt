@@ -48,9 +48,6 @@ unshown = record { known = false; tags = 0; discards = no_discards }
 abbrev pub shown_of : Desk → Shown
 shown_of d = record { known = true; tags = d.tags; discards = d.discards }
 
-abbrev pub new_core : ReaderState → Probe → Desk → Core
-new_core reader probe desk = record { reader = reader; waiting = []; looked = 0; probe = probe; known = None; infos = []; desk = desk }
-
 -- the text is an FLV text, whether or not it is cut
 abbrev pub IsReadable : List ℕ → Type 0
 IsReadable fed = ((reading_of fed).verdict ≡ None) ⊎ ((reading_of fed).verdict ≡ Some fault.CutTag)

@@ -74,6 +74,7 @@ impl Model for Demuxer {
 }
 
 impl Demuxer {
+    /// A demuxer that was fed nothing yet.
     pub fn new(alloc: Global) -> Result<Demuxer, NoMemory>
         ensures open { IfOk result (λ d. d.core.reader.ended ≡ false) }
         ensures dealt { IfOk result (λ d. HasDealt [] [] d) }

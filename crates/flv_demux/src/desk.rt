@@ -1,11 +1,11 @@
 // What comes of a tag.
-ghost use Rattle.std.specs.Prelude.{◌≡◌, ◌≤◌, ◌<◌, IfOk, ◌+◌, min, OnOk, negsuc, pos, ◌≤ℤ◌, ◌+ℤ◌, length};
+ghost use Rattle.std.specs.Prelude.{◌≡◌, ◌<◌, IfOk, ◌+◌, negsuc, pos, ◌≤ℤ◌, ◌+ℤ◌, length};
 ghost use Rattle.std.specs.Int.{int_max};
 ghost use Rattle.rmx_media.specs.Config.{kind_of as kind_in, raw_of as raw_in, IsAsRead};
 ghost use Rattle.flv_demux.specs.Meaning.{IsSound};
 ghost use Rattle.std.specs.Prelude.{ℤ};
-ghost use Rattle.flv_demux.specs.Probe.{has as has_kind, number_of_stream, IsOfKind};
-ghost use Rattle.flv_demux.specs.Deal.{outcome_of as outcome_in, outcome_by, entered, one_tag, packet_in, counted as counted_in, more, is_valid as valid, repeats as repeats_raw, forced, next_version as version_after, media_outcome, packet_at as packet_with, seen as seen_in, new_desk as nothing_dealt, nothing_seen as none_seen, IsSmallTop, IsSoundSeen, IsSoundOutcome, IsSoundPacket, IsSoundDesk, IsSoundGift};
+ghost use Rattle.flv_demux.specs.Probe.{has as has_kind, number_of_stream};
+ghost use Rattle.flv_demux.specs.Deal.{outcome_of as outcome_in, outcome_by, entered, one_tag, packet_in, counted as counted_in, is_valid as valid, repeats as repeats_raw, forced, next_version as version_after, media_outcome, seen as seen_in, new_desk as nothing_dealt, nothing_seen as none_seen, IsSmallTop, IsSoundSeen, IsSoundOutcome, IsSoundDesk, IsSoundGift};
 
 use crate::deal::{Desk, Discards, Kinds, Meaning, Outcome, Reason, Seen};
 use crate::meaning::meaning_of;
@@ -14,6 +14,7 @@ use bytes::Bytes;
 use flv_tags::Tag;
 use rmx_media::{Config, Form, Kind, NoMemory, Packet};
 
+/// The counts where no tag was discarded.
 pub const NO_DISCARDS: Discards = Discards {
     script: 0,
     unsupported: 0,
@@ -34,6 +35,7 @@ fn nothing_seen() -> Seen
     }
 }
 
+/// A desk at which no tag was dealt with yet.
 pub fn new_desk() -> Desk
     ensures value { result ≡ nothing_dealt }
     ensures sound { IsSoundDesk result }

@@ -1,5 +1,5 @@
 // What a tag means by itself.
-ghost use Rattle.std.specs.Prelude.{◌≡◌, ◌≤◌, ◌<◌, IfOk, length, drop, pos, ◌≤ℤ◌, Result};
+ghost use Rattle.std.specs.Prelude.{◌≡◌, ◌≤◌, ◌<◌, IfOk, length, drop, pos, ◌≤ℤ◌};
 ghost use Rattle.rmx_media.specs.Config.{IsReadAvc, IsReadAac};
 ghost use Rattle.flv_demux.specs.Meaning.{meaning, audio_meaning, video_meaning, composition_of, by_avc, by_aac, unread as spec_unread, IsSound};
 

@@ -1,7 +1,6 @@
 // Which streams there are.
-ghost use Rattle.std.specs.Prelude.{◌≡◌, ◌<◌, ◌+◌, ◌++◌, ◌≤◌, IfOk, OnOk, OnErr, length, IfSome, false};
-ghost use Rattle.flv_demux.specs.Probe.{no_probe as nothing, probed, noted, is_decided as decided, kinds_of as kinds_in, infos_of as infos_in, info_list, first_of, has_stream as has_any, IsSoundProbe, IsOfKind};
-ghost use Rattle.flv_demux.specs.Meaning.{IsSound};
+ghost use Rattle.std.specs.Prelude.{◌≡◌, ◌<◌, ◌++◌, IfOk, OnOk, OnErr, length};
+ghost use Rattle.flv_demux.specs.Probe.{no_probe as nothing, probed, noted, is_decided as decided, kinds_of as kinds_in, infos_of as infos_in, info_list, first_of, has_stream as has_any, IsSoundProbe};
 
 use crate::deal::{Kinds, Meaning, Probe, Reason};
 use crate::meaning::meaning_of;
@@ -15,6 +14,7 @@ const MOST_TAGS: u64 = 64;
 
 const MOST_BYTES: u64 = 8388608;
 
+/// What is known before the first tag.
 pub fn no_probe() -> Probe
     ensures value { result ≡ nothing }
     ensures sound { IsSoundProbe result }
@@ -28,6 +28,7 @@ pub fn no_probe() -> Probe
     }
 }
 
+/// Whether it is decided which streams there are: both were seen, or enough tags or bytes were read.
 pub fn is_decided(probe: &Probe) -> bool
     ensures { result ≡ decided probe.now }
 {
@@ -99,6 +100,7 @@ pub fn look(probe: &mut Probe, tag: &Tag) -> Result<(), NoMemory>
     Ok(())
 }
 
+/// Which kinds of streams were seen.
 pub fn kinds_of(probe: &Probe) -> Kinds
     ensures { result ≡ kinds_in probe.now }
 {
@@ -108,6 +110,7 @@ pub fn kinds_of(probe: &Probe) -> Kinds
     }
 }
 
+/// Whether there is a stream of any kind.
 pub fn has_stream(kinds: Kinds) -> bool
     ensures { result ≡ has_any kinds }
 {

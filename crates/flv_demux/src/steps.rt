@@ -1,12 +1,11 @@
 // One step of a demuxer, over its parts.
-ghost use Rattle.std.specs.Prelude.{◌≡◌, ◌<◌, ◌≤◌, ◌+◌, ◌*◌, ◌++◌, ◌∷◌, ℕ, List, IfOk, OnOk, OnErr, length, Some, None, Option, Err, Ok, true, false};
-ghost use Rattle.rmx_media.specs.declared.streams.StreamInfo.{StreamInfo};
+ghost use Rattle.std.specs.Prelude.{◌≡◌, ◌<◌, ◌≤◌, ◌+◌, ◌*◌, ◌++◌, ℕ, List, IfOk, OnOk, OnErr, length, Some, None, Err, Ok, true, false};
 ghost use Rattle.flv_tags.specs.declared.tag.Tag.{Tag};
 ghost use Rattle.flv_tags.specs.Reader.{HasRead, left_of};
 ghost use Rattle.flv_tags.specs.TagReader.{state_of};
 ghost use Rattle.flv_demux.specs.declared.deal.Streams.{Streams};
 ghost use Rattle.flv_demux.specs.declared.deal.Desk.{Desk};
-ghost use Rattle.flv_demux.specs.Probe.{kinds_of as kinds_in, infos_of as infos_in, probed, has_stream as has_any, IsSoundProbe};
+ghost use Rattle.flv_demux.specs.Probe.{IsSoundProbe};
 ghost use Rattle.flv_demux.specs.Deal.{IsSoundDesk};
 ghost use Rattle.flv_demux.specs.State.{Demuxed, HaveSmallBodies, AreSoundInfos, left_in};
 ghost use Rattle.flv_demux.specs.Steps.{ReadsOne, DealsFirst, Steps, is_read, is_on, fault_in, is_cut as cuts, core_at, LooksAtNext, Decides};
