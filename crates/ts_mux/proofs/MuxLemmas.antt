@@ -1,6 +1,5 @@
 -- The muxer's calls, by what they are made of.
-use Rattle.std.proofs.Common.{◌≡◌, ℕ, pos, negsuc, suc, ◌+◌, ◌-◌, ◌/◌, ◌%◌, ◌≤◌, ◌≤ℤ◌, ◌+ℤ◌, Bool, true, false, if◌then◌else◌, List, [], ◌++◌, length, drop, refl, sym, ap, ◌∙◌, arith, length-append, zero}
-use Rattle.std.proofs.lemmas.Int.{ints}
+use Rattle.std.proofs.Common.{◌≡◌, ℕ, suc, ◌+◌, ◌-◌, ◌/◌, ◌%◌, ◌≤◌, Bool, true, false, if◌then◌else◌, List, [], ◌++◌, length, drop, refl, sym, ap, ◌∙◌, arith, length-append, zero}
 use Rattle.std.proofs.lemmas.List.{length-drop}
 use Rattle.rmx_media.specs.declared.aac.AacConfig.{AacConfig}
 use Rattle.rmx_media.specs.declared.avc.AvcConfig.{AvcConfig}
@@ -8,19 +7,16 @@ use Rattle.rmx_media.specs.declared.config.Config.{Config}
 use Rattle.rmx_media.specs.declared.config.Config.TheVariants.{Avc, Aac}
 use Rattle.rmx_media.specs.declared.packet.Form.{Form}
 use Rattle.rmx_media.specs.declared.packet.Form.TheVariants.{Native, AnnexB, Adts}
-use Rattle.rmx_media.specs.declared.packet.Format.TheVariants.{Mpegts}
 use Rattle.rmx_media.specs.declared.packet.Packet.{Packet}
 use Rattle.rmx_media.specs.declared.streams.MuxStream.{MuxStream}
-use Rattle.rmx_media.specs.declared.streams.MuxStreams.{MuxStreams}
 use Rattle.rmx_media.specs.Adts.{adts_head}
-use Rattle.rmx_media.specs.Fits.{IsPayload, FitsLowered}
+use Rattle.rmx_media.specs.Fits.{IsPayload}
 use Rattle.rmx_edge.specs.Shelf.{ShelfCall}
 use Rattle.ts_mux.specs.declared.track.Track.{Track}
 use Rattle.ts_mux.specs.Cells.{cells_of, more_cells, cells_by, cell_count}
 use Rattle.ts_mux.specs.File.{is_first, packet_cells, flags_of}
 use Rattle.ts_mux.specs.Past.{Past, with_cells}
-use Rattle.ts_mux.specs.Pes.{pes_of, pes_by, video_head, delimited, started_form, video_pes, audio_pes}
-use Rattle.ts_mux.specs.Times.{IsTime}
+use Rattle.ts_mux.specs.Pes.{pes_of, pes_by, video_head, delimited, started_form, video_pes}
 
 pub calls_shown : (shown : Bool) (calls : List ShelfCall) → shown ≡ true → (if shown then calls else []) ≡ calls
 calls_shown shown calls h = cc
@@ -87,9 +83,6 @@ pub video_pes_is : (config : AvcConfig) (p : Packet) (units : List ℕ) → p.co
 unfolding video_pes
 video_pes_is config p units e u = ap (λ (c : Config). pes_by c p) e ∙ ap (λ l. video_head p.pts p.dts ++ delimited l) u
 
-pub audio_pes_is : (config : AacConfig) (p : Packet) → p.config ≡ Aac config → pes_of p ≡ audio_pes config p
-audio_pes_is config p e = ap (λ (c : Config). pes_by c p) e
-
 head_seven : (config : AacConfig) (size : ℕ) → length (adts_head config size) ≡ 7
 unfolding adts_head
 head_seven config size = refl
@@ -103,17 +96,3 @@ audio_size config Adts payload h =
     let whole : length payload ≡ length (adts_head config (length h.payload)) + length h.payload =
     ap length h.spelled ∙ length-append (adts_head config (length h.payload)) h.payload in
     omega (arith, head_seven config (length h.payload))
-
--- the times of a packet that fits
-pub dts_is_time : (streams : MuxStreams) (p : Packet) → FitsLowered Mpegts streams p → IsTime p.dts
-dts_is_time streams p h =
-    let high : p.dts ≤ℤ pos 8589934592 = h.high in
-    record { low = h.low; high = omega (arith, ints) }
-
-pub pts_is_time : (streams : MuxStreams) (p : Packet) → FitsLowered Mpegts streams p → IsTime p.pts
-pts_is_time streams p h =
-    let low : negsuc 8589934591 ≤ℤ p.dts = h.low in
-    let high : p.dts ≤ℤ pos 8589934592 = h.high in
-    let early : p.dts ≤ℤ p.pts = h.all.early in
-    let late : p.pts ≤ℤ (p.dts +ℤ pos 8388607) = h.all.late in
-    record { low = omega (arith, ints); high = omega (arith, ints) }

@@ -1,5 +1,5 @@
 // Pieces read as one run of bytes.
-ghost use Rattle.std.specs.Prelude.{◌≡◌, ◌+◌, ◌-◌, ◌<◌, ◌≤◌, false, length, take, drop, ◌++◌, min, MatchOption};
+ghost use Rattle.std.specs.Prelude.{◌≡◌, ◌+◌, ◌-◌, ◌<◌, ◌≤◌, false, length, take, drop, ◌++◌, min};
 ghost use Rattle.ts_mux.specs.Cells.{cell as cell_of, no_flags};
 
 use crate::cell_front::{front, make_whole};

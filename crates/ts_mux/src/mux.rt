@@ -1,5 +1,5 @@
 // Files of packets.
-ghost use Rattle.std.specs.Prelude.{◌≡◌, ◌<◌, ◌≤◌, ◌+◌, true, false, ℕ, List, [], ◌∷◌, ◌++◌, length, OnOk};
+ghost use Rattle.std.specs.Prelude.{◌≡◌, ◌<◌, ◌≤◌, true, false, List, [], ◌∷◌, ◌++◌, length, OnOk};
 ghost use Rattle.std.specs.Option.{ForSome};
 ghost use Rattle.rmx_edge.specs.Pieces.{EndsInWrite};
 ghost use Rattle.rmx_edge.specs.Run.{Runs};
@@ -9,7 +9,7 @@ ghost use Rattle.rmx_media.specs.Fits.{FitsLowered, IsPayload};
 ghost use Rattle.rmx_media.specs.Streams.{CanMux};
 ghost use Rattle.ts_mux.specs.File.{begin_calls, put_calls, end_calls};
 ghost use Rattle.ts_mux.specs.Past.{track_of, with_tables, with_cells, step, tables_calls, cells_calls, calls_at};
-ghost use Rattle.ts_mux.specs.Pes.{pes_of, video_head, delimited, video_pes, audio_pes};
+ghost use Rattle.ts_mux.specs.Pes.{pes_of, video_head, delimited};
 ghost use Rattle.ts_mux.specs.Timed.{at_times, packet_of};
 ghost use Rattle.ts_mux.specs.Times.{IsTime};
 ghost use Rattle.ts_mux.specs.Tables.{AreTables};

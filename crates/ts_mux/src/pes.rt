@@ -1,5 +1,5 @@
 // What stands before the data of a PES packet, and the clock of a cell.
-ghost use Rattle.std.specs.Prelude.{◌≡◌, ◌<◌, ◌≤◌, ◌^◌, ◌+◌, ℕ, List, length, ◌++◌};
+ghost use Rattle.std.specs.Prelude.{◌≡◌, ◌<◌, ◌≤◌, ◌^◌, ◌+◌, length, ◌++◌};
 ghost use Rattle.arrayvec.specs.ArrayVec.{array_vec_len};
 ghost use Rattle.ts_mux.specs.Pes.{head_of, time_field as time_field_of, clock_flags as clock_flags_of};
 ghost use Rattle.ts_mux.specs.Times.{IsTime};

@@ -1,5 +1,5 @@
 // The tables of a file.
-ghost use Rattle.std.specs.Prelude.{◌≡◌, ◌+◌, ◌<◌, ◌%◌, true, [], ◌∷◌, OnOk, slice_set};
+ghost use Rattle.std.specs.Prelude.{◌≡◌, ◌+◌, ◌<◌, ◌%◌, true, OnOk};
 ghost use Rattle.rmx_media.specs.Streams.{AreStreams};
 ghost use Rattle.rmx_edge.specs.Run.{Runs};
 ghost use Rattle.ts_mux.specs.File.{stream_type_of};
