@@ -51,9 +51,6 @@ zero_push : (before : List Packet) (p : Packet) → Some (zero_with (first_pts b
 zero_push [] p = refl
 zero_push (q ∷ ps) p = refl
 
-zero_same : (q : Packet) (ps : List Packet) (p : Packet) → zero_of ((q ∷ ps) ++ p ∷ []) ≡ zero_of (q ∷ ps)
-zero_same q ps p = refl
-
 abbrev pub of_pts : ℤ → Packet → ℤ
 of_pts top p = int_max top p.pts
 

@@ -7,11 +7,8 @@ use Rattle.rmx_media.specs.declared.packet.Packet.{Packet}
 use Rattle.rmx_media.specs.declared.streams.MuxStreams.{MuxStreams}
 use Rattle.rmx_media.specs.declared.packet.Format.TheVariants.{Flv, Adts, Mpegts, Segment}
 use Rattle.rmx_media.specs.Fits.{Suits, Fits, FitsLowered}
-use Rattle.segmenter.specs.Near.{IsNear, IsDts}
+use Rattle.segmenter.specs.Near.{IsDts}
 use Rattle.segmenter.specs.Times.{lowered_by, base_of, lowered}
-
-base_more : (reset : Bool) (q : Packet) (qs : List Packet) (p : Packet) → base_of reset ((q ∷ qs) ++ p ∷ []) ≡ base_of reset (q ∷ qs)
-base_more reset q qs p = refl
 
 -- the packets of a file with one more
 pub lowered_push : (reset : Bool) (ps : List Packet) (p : Packet) → lowered reset (ps ++ p ∷ []) ≡ lowered reset ps ++ lowered_by (base_of reset (ps ++ p ∷ [])) p ∷ []
@@ -49,17 +46,6 @@ fits_lowered f streams p by h b =
       low = omega (arith, ints);
       high = omega (arith, ints);
     }
-
-pub pts_near : (f : Format) (streams : MuxStreams) (p : Packet) → Fits f streams p → IsNear p.pts
-pts_near f streams p h =
-    let low : negsuc 2147483647 ≤ℤ p.dts = h.low in
-    let high : p.dts ≤ℤ pos 2147483647 = h.high in
-    let early : p.dts ≤ℤ p.pts = h.all.early in
-    let late : p.pts ≤ℤ (p.dts +ℤ pos 8388607) = h.all.late in
-    record { low = omega (arith, ints); high = omega (arith, ints) }
-
-pub dts_near : (f : Format) (streams : MuxStreams) (p : Packet) → Fits f streams p → IsDts p.dts
-dts_near f streams p h = record { low = h.low; high = h.high }
 
 pub none_yet : (reset : Bool) → None ≡ base_of reset []
 none_yet true = refl
