@@ -3,12 +3,12 @@
 -- The message number j lies in the slot j % n.
 use Rattle.std.specs.Prelude.{◌≡◌, ◌⊎◌, ℕ, zero, suc, ◌+◌, ◌%◌, ◌^◌, ◌<◌, ◌≤◌, List, [], ◌∷◌, ◌++◌, length, take as front, sum_by, Bool, true, false, Option, Some, None}
 use mathlib.Core.List.{IsPrefix}
-use mathlib.Core.Option.{none, some}
+use mathlib.Core.Option.{some}
 use mathlib.Core.Option as maybe
 use lib.ListN.{get_elem?}
 use Rattle.atomic_table.specs.Table.{State, Me, Step, rest}
 use Rattle.lane.specs.Sight.{Giving, Taking, Refusal, GiverView, TakerView, Sight, both, giver, taker, settled, spent}
-use Rattle.lane_core.specs.Machine.{Event, Reply, Machine, Bounds, waiting as left, is_full}
+use Rattle.lane_core.specs.Machine.{Reply, Machine, Bounds, waiting as left, is_full}
 use Rattle.lane.specs.Past.{Past, Runs, giver_side, taker_side, Tale}
 use Rattle.lane_core.specs.Machine as machine
 use Rattle.lane.specs.declared.view.View.{View}

@@ -1,6 +1,6 @@
 -- What the calls of a lane tell.
 use Rattle.std.specs.Prelude.{◌≡◌, ℕ, ◌+◌, ◌<◌, ◌≤◌, List, [], ◌∷◌, ◌++◌, length, replicate, sum_by, map, Bool, true, false, Option, Some, None, slice_get}
-use Rattle.lane_core.specs.Machine.{Bounds, Machine, Event, Reply, waiting, is_full}
+use Rattle.lane_core.specs.Machine.{Machine, waiting, is_full}
 use Rattle.lane_core.specs.Machine as machine
 use Rattle.lane.specs.declared.receipt.Offer.{Offer}
 use Rattle.lane.specs.declared.receipt.Offer.TheVariants.{Accepted, Refused}

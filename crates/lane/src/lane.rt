@@ -8,7 +8,7 @@ ghost use Rattle.rmx_media.specs.declared.packet.Format.TheVariants.{Segment};
 ghost use Rattle.lane_core.specs.Machine as machine;
 ghost use Rattle.lane.specs.Follows.{MayFollow, measure, size_of, next_index};
 ghost use Rattle.lane.specs.Ring.{Stands, head_loaded, refusing, waiting};
-ghost use Rattle.lane.specs.Told.{InOneOrder, AreOffers, IsGiven, Sees, is_full_for, IsOffered, IsTaken, IsTakenAtLast, first_told, SawInTime};
+ghost use Rattle.lane.specs.Told.{InOneOrder, AreOffers, IsGiven, Sees, IsOffered, IsTaken, IsTakenAtLast, first_told, SawInTime};
 
 use crate::backoff::Backoff;
 use crate::counts::LaneCounts;

@@ -17,7 +17,7 @@ pub(crate) struct Sizes {
 }
 
 impl Sizes {
-    ghost use Rattle.std.specs.Prelude.{◌^◌, ◌+◌, ◌++◌, ◌∷◌, [], drop, IfOk};
+    ghost use Rattle.std.specs.Prelude.{◌^◌, ◌++◌, ◌∷◌, [], drop, IfOk};
     ghost use Rattle.std.specs.VecDeque.{deque_capacity};
 
     /// No sizes, with places for `cap`, so that no push takes memory.

@@ -1,3 +1,4 @@
+// Lanes on one thread and on two.
 ghost use Rattle.std.specs.Prelude.{◌≡◌, ◌+◌, ◌^◌, ◌<◌, ◌≤◌, [], length, true, false, Some, None, IfOk};
 ghost use Rattle.rmx_media.specs.Config.{IsReadAac};
 ghost use Rattle.rmx_media.specs.Fits.{Fits};
