@@ -1,5 +1,5 @@
 // A packet through a chain with no filter.
-ghost use Rattle.std.specs.Prelude.{◌≡◌, ◌≤◌, IfOk};
+ghost use Rattle.std.specs.Prelude.{IfOk};
 ghost use Rattle.rmx_media.specs.Config.{IsReadAvc};
 
 use avc_units::valid_units;

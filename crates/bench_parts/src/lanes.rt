@@ -1,5 +1,5 @@
 // Messages from one thread to another through a lane.
-ghost use Rattle.std.specs.Prelude.{◌≡◌, ◌+◌, ◌^◌, ◌<◌, ◌≤◌, [], length, true, false, Some};
+ghost use Rattle.std.specs.Prelude.{◌≡◌, ◌+◌, ◌<◌, ◌≤◌, [], length, true, false, Some};
 ghost use Rattle.rmx_media.specs.Streams.{kind_in};
 ghost use Rattle.rmx_media.specs.declared.packet.Format.TheVariants.{Adts};
 ghost use Rattle.rmx_media.specs.declared.streams.Kind.TheVariants.{Audio};

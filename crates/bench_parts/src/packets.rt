@@ -1,5 +1,5 @@
 // The packets that are passed about. Making one takes no memory.
-ghost use Rattle.std.specs.Prelude.{◌≡◌, ◌+◌, ◌^◌, ◌<◌, Some, IfOk};
+ghost use Rattle.std.specs.Prelude.{◌≡◌, Some, IfOk};
 ghost use Rattle.rmx_media.specs.Config.{IsReadAac};
 ghost use Rattle.rmx_media.specs.Fits.{Fits};
 ghost use Rattle.rmx_media.specs.Streams.{kind_in};
