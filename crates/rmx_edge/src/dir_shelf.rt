@@ -1,6 +1,8 @@
 // Files of the file system as a shelf.
-ghost use Rattle.std.specs.Prelude.{◌≡◌, ◌<◌, [], None, is_some, false, length};
+ghost use Rattle.std.specs.Prelude.{◌≡◌, ◌<◌, [], None, is_some, true, false, length, OnOk};
+ghost use Rattle.std.specs.Io.KnownBytes.{Appends};
 ghost use Rattle.rmx_edge.specs.Faults.{count_of};
+ghost use Rattle.rmx_edge.specs.Gathered.{Gathers, OnOpen};
 
 use crate::claim::Claim;
 use crate::faults::Faults;
@@ -91,9 +93,16 @@ impl<R: Files + Drop> Shelf for DirShelf<R>
 where
     R::File: Drop,
 {
+    ghost use Rattle.rmx_edge.specs.Shelf.{Create, Write, Makes, Flushes};
+
     ghost state = { λ s. record { takes = None; calls = None; accepted = None; writing = is_some s.file; faults = count_of s.faults; wants = 0; sound = false } };
 
-    fn create(&mut self, name: &str) -> Result<(), ShelfFault> {
+    fn create(&mut self, name: &str) -> Result<(), ShelfFault>
+        requires { is_some self.old.file ≡ false }
+        ensures made { Makes (Create name.now) result (⟦<DirShelf<R> as Shelf>⟧.state self.old) (⟦<DirShelf<R> as Shelf>⟧.state self.new) }
+        // Nothing of a file before gets into this one.
+        ensures clean { self.new.pending.items ≡ [] }
+    {
         match self.open(name) {
             Ok(file) => {
                 self.file = Some(file);
@@ -103,7 +112,12 @@ where
         }
     }
 
-    fn write(&mut self, bytes: &[u8]) -> Result<(), ShelfFault> {
+    fn write(&mut self, bytes: &[u8]) -> Result<(), ShelfFault>
+        requires { is_some self.old.file ≡ true }
+        ensures made { Makes (Write bytes.now) result (⟦<DirShelf<R> as Shelf>⟧.state self.old) (⟦<DirShelf<R> as Shelf>⟧.state self.new) }
+        // The bytes come behind all before them, in the file or among what is pending.
+        ensures told { OnOk result (OnOpen R.File.contents self.old.file self.new.file (λ old new. Gathers old self.old.pending.items new self.new.pending.items bytes.now)) }
+    {
         if let Some(file) = &mut self.file {
             return match write_later(file, &mut self.pending, bytes) {
                 Ok(()) => Ok(()),
@@ -127,7 +141,13 @@ where
         unreachable!()
     }
 
-    fn flush(&mut self) -> Result<(), ShelfFault> {
+    fn flush(&mut self) -> Result<(), ShelfFault>
+        requires { is_some self.old.file ≡ true }
+        ensures flushed { Flushes result (⟦<DirShelf<R> as Shelf>⟧.state self.old) (⟦<DirShelf<R> as Shelf>⟧.state self.new) }
+        // All that was pending is in the file, and nothing is pending.
+        ensures told { OnOk result (OnOpen R.File.contents self.old.file self.new.file (λ old new. Appends old new self.old.pending.items)) }
+        ensures none { OnOk result (self.new.pending.items ≡ []) }
+    {
         if let Some(file) = &mut self.file {
             return match write_pending(file, &mut self.pending) {
                 Ok(()) => Ok(()),

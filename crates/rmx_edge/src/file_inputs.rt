@@ -1,6 +1,8 @@
 // Files as inputs.
-ghost use Rattle.std.specs.Prelude.{◌≡◌, None, is_some, false};
+ghost use Rattle.std.specs.Prelude.{◌≡◌, ◌<◌, None, is_some, true, false, length};
+ghost use Rattle.std.specs.Io.KnownBytes.{ReadConsumes};
 ghost use Rattle.rmx_edge.specs.Faults.{count_of};
+ghost use Rattle.rmx_edge.specs.Gathered.{WhileOpen};
 
 use crate::claim::Claim;
 use crate::faults::Faults;
@@ -69,6 +71,8 @@ impl<R: Files + Drop> Inputs for FileInputs<R>
 where
     R::File: Drop,
 {
+    ghost use Rattle.rmx_edge.specs.Inputs.{Reads};
+
     ghost state = { λ s. record { view = None; readable = is_some s.file; faults = count_of s.faults; sound_at = λ _. false; sound_now = false } };
 
     fn open_input(&mut self, name: &str) -> Result<(), Failed> {
@@ -81,7 +85,13 @@ where
         }
     }
 
-    fn read(&mut self, buf: &mut [u8]) -> Result<usize, Failed> {
+    fn read(&mut self, buf: &mut [u8]) -> Result<usize, Failed>
+        requires readable { is_some self.old.file ≡ true }
+        requires room { 0 < length buf.old }
+        ensures taken { Reads result buf.new (⟦<FileInputs<R> as Inputs>⟧.state self.old) (⟦<FileInputs<R> as Inputs>⟧.state self.new) }
+        // The bytes are the file's next ones, all that were read.
+        ensures told { WhileOpen R.File.remaining self.old.file self.new.file (λ old new. ReadConsumes old new result buf.new) }
+    {
         if let Some(file) = &mut self.file {
             return match read_some(file, buf) {
                 Ok(0) => {
