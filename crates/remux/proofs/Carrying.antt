@@ -2,6 +2,7 @@
 use Rattle.std.proofs.Common.{◌≡◌, ℕ, ◌+◌, ◌<◌, ◌≤◌, ◌⊎◌, inl, inr, Bool, true, false, List, [], ◌∷◌, ◌++◌, length, ap, ◌∙◌, sym, refl, subst, arith, length-append, append_assoc, Option, Some, None}
 use Rattle.std.specs.Prelude.{◌≤ℤ◌, ◌^◌}
 use Rattle.std.proofs.lemmas.Bool.{cases_lt}
+use Rattle.std.proofs.lemmas.List.{append-nil}
 use Rattle.rmx_media.specs.declared.packet.Packet.{Packet}
 use Rattle.flv_tags.specs.declared.tag.Tag.{Tag}
 use Rattle.flv_tags.specs.declared.tag.TagFault.TheVariants as tag_fault
@@ -33,10 +34,6 @@ use Rattle.remux.proofs.Pumping.{flowing_more, stopped_by, all_given, all_out, c
 use Rattle.remux.proofs.Reading.{short_of}
 use Rattle.remux.proofs.Starting.{no_packets}
 use Rattle.remux.proofs.Taking.{took_none}
-
-nil_end : (xs : List ℕ) → xs ++ [] ≡ xs
-nil_end [] = refl
-nil_end (x ∷ xs) = ap (λ (ys : List ℕ). x ∷ ys) (nil_end xs)
 
 -- before the first packet, whatever the demuxer holds back
 pub start_of : (s : Kinds) (b : List ℕ) (first : Option Packet) (r : Reached) (left : ℕ) (now : InputState) (ended : Bool) (known : Option Kinds) (has : List ℕ → List Tag → Type 0) (v : Pending) (keeps : List Packet → Type 0) (dead : ℕ → Bool) (takes : Packet → Type 0) →
@@ -90,17 +87,17 @@ decided_more reached.Limit b ended left now h d = absurd (not_both _ d h.2)
 stops_here : (s : Kinds) (b : List ℕ) (r : Reached) (left : ℕ) (now : InputState) (ended : Bool) (has : List ℕ → List Tag → Type 0) (v : Pending) (k : List Packet → Type 0) (d : ℕ → Bool) →
     ByReached r b ended left now → Late b 0 → Stopped s b 0 v.streams v.delta has k d → StopsEarly s b left now now has v k d
 stops_here s b r left now ended has v k d how late st =
-    let st1 : Stopped s (b ++ []) 0 v.streams v.delta has k d = subst (λ (x : List ℕ). Stopped s x 0 v.streams v.delta has k d) (sym (nil_end b)) st in
+    let st1 : Stopped s (b ++ []) 0 v.streams v.delta has k d = subst (λ (x : List ℕ). Stopped s x 0 v.streams v.delta has k d) (sym (append-nil b)) st in
     record {
       more = [];
       long = omega arith;
       only = λ x. refl;
       took = took_none now;
-      unspent = λ x. decided_more r b ended left now how (subst (λ (c : List ℕ). is_decided (probe_of (reading_of c).tags) ≡ true) (nil_end b) x);
+      unspent = λ x. decided_more r b ended left now how (subst (λ (c : List ℕ). is_decided (probe_of (reading_of c).tags) ≡ true) (append-nil b) x);
       done = 0;
       stopped = st1;
       least = least_tags s (b ++ []) _ v.streams v.delta has k d st1;
-      short = λ x. short_of (b ++ []) 0 (length st1.before + 1) (subst (λ (c : List ℕ). Late c 0) (sym (nil_end b)) late) (omega arith);
+      short = λ x. short_of (b ++ []) 0 (length st1.before + 1) (subst (λ (c : List ℕ). Late c 0) (sym (append-nil b)) late) (omega arith);
     }
 
 pub first_stops : (s : Kinds) (b : List ℕ) (p : Packet) (r : Reached) (left : ℕ) (now : InputState) (ended : Bool) (known : Option Kinds) (has : List ℕ → List Tag → Type 0) (v0 v1 : Pending) (k0 k1 : List Packet → Type 0) (d0 d1 : ℕ → Bool) (t0 : Packet → Type 0) →
@@ -113,7 +110,7 @@ first_stops s b p r left now ended known has v0 v1 k0 k1 d0 d1 t0 y n e h =
 
 breaks_of : (s : Kinds) (b : List ℕ) (left : ℕ) (now : InputState) (has : List ℕ → List Tag → Type 0) (v : Pending) (k : List Packet → Type 0) (d : ℕ → Bool) →
     CutShort s b v.streams v.delta has k d → Breaks s b left now now has v k d
-breaks_of s b left now has v k d c = record { more = []; long = omega arith; only = λ x. refl; took = took_none now; cut = subst (λ (x : List ℕ). CutShort s x v.streams v.delta has k d) (sym (nil_end b)) c }
+breaks_of s b left now has v k d c = record { more = []; long = omega arith; only = λ x. refl; took = took_none now; cut = subst (λ (x : List ℕ). CutShort s x v.streams v.delta has k d) (sym (append-nil b)) c }
 
 pub first_breaks : (s : Kinds) (b : List ℕ) (p : Packet) (r : Reached) (left : ℕ) (now : InputState) (ended : Bool) (known : Option Kinds) (has : List ℕ → List Tag → Type 0) (v0 v1 : Pending) (k0 k1 : List Packet → Type 0) (d0 d1 : ℕ → Bool) (t0 : Packet → Type 0) →
     Ready s b (Some p) r left now ended known has v0 k0 t0 → v1.streams ≡ v0.streams → v1.delta ≡ v0.delta → HandedSome v0.streams v0.delta (p ∷ []) [] k1 d0 d1 →
@@ -127,8 +124,8 @@ first_breaks s b p r left now ended known has v0 v1 k0 k1 d0 d1 t0 y n e h =
 reaches_of : (s : Kinds) (b : List ℕ) (left : ℕ) (now : InputState) (known : Option Kinds) (has : List ℕ → List Tag → Type 0) (v : Pending) (k : List Packet → Type 0) (d : ℕ → Bool) (t : Packet → Type 0) →
     AllGiven s b known has v k d t → (r : Reaches s b left now now known has v k d t) × (b ++ r.more ≡ b) × (length r.more ≡ 0)
 reaches_of s b left now known has v k d t a = (
-  record { more = []; long = omega arith; only = λ x. refl; took = took_none now; all = subst (λ (x : List ℕ). AllGiven s x known has v k d t) (sym (nil_end b)) a },
-  nil_end b,
+  record { more = []; long = omega arith; only = λ x. refl; took = took_none now; all = subst (λ (x : List ℕ). AllGiven s x known has v k d t) (sym (append-nil b)) a },
+  append-nil b,
   refl,
 )
 

@@ -1,10 +1,9 @@
 -- A run in which nothing fails comes to its end.
 use Rattle.std.proofs.Common.{◌≡◌, ℕ, ◌+◌, ◌<◌, ◌≤◌, ◌⊎◌, inl, inr, Bool, true, false, List, [], ◌∷◌, ◌++◌, length, map, Option, Some, None, is_some, refl, ap, sym, ◌∙◌, subst, arith, length-append, Ok, Err}
-use Rattle.std.specs.Prelude.{zero, suc, ◌&&◌, IfSome, IsSomeAnd, take, drop, nat_lt, if◌then◌else◌}
-use Rattle.std.proofs.lemmas.Bool.{lt-ltb}
-use Rattle.std.proofs.lemmas.List.{take-append-le}
+use Rattle.std.specs.Prelude.{zero, suc, ◌&&◌, IfSome, IsSomeAnd, drop, nat_lt, if◌then◌else◌}
+use Rattle.std.proofs.lemmas.Bool.{both_ways}
+use Rattle.std.proofs.lemmas.List.{append-nil}
 use Rattle.std.specs.List.{list_all}
-use Rattle.std.specs.Str.{bytes_eq}
 use Rattle.fifo_core.specs.declared.types.EndState.{EndState}
 use Rattle.fifo_core.specs.declared.types.EndState.TheVariants as ends
 use Rattle.fifo_core.specs.declared.types.PacketFacts.{PacketFacts}
@@ -17,8 +16,8 @@ use Rattle.flv_tags.specs.declared.tag.TagFault.{TagFault}
 use Rattle.flv_tags.specs.declared.tag.TagFault.TheVariants as fault
 use Rattle.flv_tags.specs.Front.{Front, Nothing, Part, One, front_of}
 use Rattle.flv_tags.specs.Tags.{Reading, reading_by, walk, reading_of_tags, reading_of, is_flv, offset_of, reading_past, only}
-use Rattle.flv_tags.proofs.More.{window}
 use Rattle.flv_tags.proofs.Grow.{tags_grow}
+use Rattle.flv_tags.proofs.HeadLemmas.{is_flv_more, offset_of_more}
 use Rattle.options.specs.Slave.{Slave}
 use Rattle.options.specs.declared.fault.WordKind.{WordKind}
 use Rattle.options.specs.declared.fault.WordFault.{WordFault}
@@ -29,23 +28,22 @@ use Rattle.rmx_edge.specs.Count.{Rose}
 use Rattle.rmx_edge.specs.Inputs.{InputView, InputState}
 use Rattle.rmx_edge.specs.Shelf.{ShelfState}
 use Rattle.rmx_edge.specs.Sink.{SinkState}
-use Rattle.rmx_media.specs.Bits.{number_of}
 use Rattle.rmx_media.specs.declared.packet.Packet.{Packet}
 use Rattle.rmx_media.specs.declared.streams.StreamInfo.{StreamInfo}
 use Rattle.slave.specs.declared.job.SlaveEnd.{SlaveEnd}
-use Rattle.slave.specs.declared.records.LaneNote.{LaneNote}
-use Rattle.slave.specs.Accounts.{NotesRise}
 use Rattle.slave.specs.End.{EndView, EndedBy, end_view}
 use Rattle.slave.specs.Headline.{HoldsAll}
 use Rattle.slave.specs.Origin.{facts_of}
 use Rattle.slave.specs.Runs.{expand}
 use Rattle.slave.specs.Segments.{asks_list}
+use Rattle.slave.proofs.Sound.{failures_noted}
 use Rattle.tee.specs.Each.{Each3}
 use Rattle.tee.specs.Ends.{AllEnded, EndsAll}
 use Rattle.tee.specs.Fails.{failed_slave, failed_in, first_failed_from, is_failed, any_want}
 use Rattle.tee.specs.RunEnds.{EndsOn, EndsAllRun}
 use Rattle.tee.specs.Seat.{Seat, AreSeats, IsSeat, aborts, chosen, first_without}
 use Rattle.tee.specs.Tracks.{Track, Here, There}
+use Rattle.tee.specs.Schedule.{IsBlocking}
 use Rattle.remux.specs.Asked.{Asked, asked_of, asked_with, name_of, pictures_of}
 use Rattle.remux.specs.Came.{CameTo}
 use Rattle.remux.specs.Complete.{IsThere, IsGood, NoneFaulted, AllWrittenFirst, Waits, EndsDuly, EachEndsDuly, IsDoneOrWants, Completes}
@@ -53,7 +51,7 @@ use Rattle.remux.specs.Demuxed.{is_refused}
 use Rattle.remux.specs.Ending.{status_by}
 use Rattle.remux.specs.Generated.{generated, telling}
 use Rattle.remux.specs.Kept.{IsKept, AreKept}
-use Rattle.remux.specs.KeptRun.{IsBlocking, IsKeptRun, AreKeptRun, AccountsBy}
+use Rattle.remux.specs.KeptRun.{IsKeptRun, AreKeptRun}
 use Rattle.remux.specs.Outcome.{Taken, IsSettled, EndsEarly, IsNothing, OfAll, OfEach, ComesToBy, ComesFromBy, IsReported, with_status, word_status, word_status_by, states_of}
 use Rattle.remux.specs.Report.{Reports, ReportsBy, report}
 use Rattle.remux.specs.Took.{SawEnd}
@@ -63,7 +61,6 @@ use Rattle.remux.specs.declared.run.Outcome.{Outcome}
 use Rattle.remux.specs.declared.status.Status.{Status}
 use Rattle.remux.specs.declared.status.Status.TheVariants as status
 use Rattle.remux.specs.declared.status.Refusal.TheVariants as refusal
-use Rattle.remux.proofs.Failing.{failed_rose}
 
 -- Each output.
 
@@ -75,18 +72,15 @@ first_session n (f ∷ fs) = (refl, first_session (n + 1) fs)
 holds_closed : (seat : Seat) (given : List Packet) (e : EndView) → HoldsAll seat.origin (chosen seat given) e → (e.state ≡ ends.Closed) × AllWrittenFirst (expand e.fates)
 holds_closed seat given e h = (h.closed, rw h.fates (first_session 0 (map (facts_of seat.origin) (chosen seat given))))
 
-not_both : (b : Bool) → b ≡ true → b ≡ false → ⊥
-not_both b t f = cc
-
 -- an output that the reader wrote
 duly_here : (s : Slave) (infos : List StreamInfo) (script : Option (List ℕ)) (before : ShelfState) (seat : Seat) (given : List Packet) (h : History) (e : EndView)
     → IsSeat s infos script before seat → EndedBy seat.origin seat.slave.fifo (chosen seat given) h e → IsKept seat given e → EndsDuly s before e
 duly_here s infos script before seat given h e is ended k = record {
   failed = λ f. rw (ap (λ (x : ShelfState). x.faults) is.shelf_is) at
-      (failed_rose seat.slave.fifo ended.0.history ended.0.end_answer e.state e.faults seat.origin.shelf.faults e.shelf.faults ended.0.end_called ended.0.state ended.0.notes k.accounts.notes f);
+      (failures_noted.0 seat.origin seat.slave.fifo (chosen seat given) e ended.0 f).1;
   closed = λ waits listless nf nw. holds_closed seat given e
       (k.whole (λ r. nf (rw (ap (λ (x : ShelfState). x.faults) is.shelf_is) at r)) (λ r. nw (rw (ap (λ (x : ShelfState). x.wants) is.shelf_is) at r))
-      (λ w. not_both (asks_list seat.origin.seg) w.0 (ap asks_list is.seg ∙ listless)));
+      (λ w. both_ways (asks_list seat.origin.seg) (ap asks_list is.seg ∙ listless) w.0));
   sound = λ so. k.sound (ap (λ (x : ShelfState). x.sound) is.shelf_is ∙ so) ∙ ap (λ (x : ShelfState). x.faults) is.shelf_is;
 }
 
@@ -104,26 +98,17 @@ all_here state infos script (s ∷ ss) (x ∷ xs) (seat ∷ seats) rest given (h
     let r = all_here state infos script ss xs seats rest given hs es a.1 e.1 k.1 in
     ((duly_here s infos script (state x) seat given h y a.0 e.0 k.0, r.0), omega (arith, r.1))
 
-notes_by : (lane : Option LaneNote) (seat : Seat) (given : List Packet) (e : EndView) → AccountsBy lane seat.origin seat.slave.fifo (chosen seat given) e → NotesRise seat.origin.shelf.faults e.faults e.shelf.faults
-notes_by None seat given e a = a.notes
-notes_by (Some note) seat given e a = a.notes
-
 -- where its thread left it failed, an output failed
 left_failed : (short : Bool) (s : EndState) → (if short then ends.NoMemory else s) ≡ ends.Failed → s ≡ ends.Failed
 left_failed true s e = cc e
 left_failed false s e = e
 
 -- an output failed only where its count rose, with a thread or without
-track_failed : (given : List Packet) (seat : Seat) (t : Track) (e : EndView) → EndsOn given seat t e → NotesRise seat.origin.shelf.faults e.faults e.shelf.faults → e.state ≡ ends.Failed
-    → Rose seat.origin.shelf.faults e.shelf.faults
-track_failed given seat (Here h) e on rise f =
-    let k = on.ended.0 in
-    failed_rose seat.slave.fifo k.history k.end_answer e.state e.faults seat.origin.shelf.faults e.shelf.faults k.end_called k.state k.notes rise f
-track_failed given seat (There told) e on rise f =
-    let k = on.ends in
-    let old = subst (λ (ns : List _). NotesRise seat.origin.shelf.faults ns e.shelf.faults) on.adds.faults rise in
-    failed_rose seat.slave.fifo k.history k.end_answer on.left.state on.left.faults seat.origin.shelf.faults e.shelf.faults k.end_called k.state k.notes old
-    (left_failed on.short on.left.state (sym on.adds.state ∙ f))
+track_failed : (given : List Packet) (seat : Seat) (t : Track) (e : EndView) → EndsOn given seat t e → e.state ≡ ends.Failed → Rose seat.origin.shelf.faults e.shelf.faults
+track_failed given seat (Here h) e on f = (failures_noted.0 seat.origin seat.slave.fifo (chosen seat given) (record e { inline = false }) on.ended.0 f).1
+track_failed given seat (There told) e on f =
+    subst (λ (x : ShelfState). Rose seat.origin.shelf.faults x.faults) (sym on.adds.shelf)
+    (failures_noted.1 seat.origin seat.slave.fifo on.turns on.left on.ends (left_failed on.short on.left.state (sym on.adds.state ∙ f))).1
 
 blocks_by : (s : Slave) (seat : Seat) (e : EndView) → seat.slave ≡ s → Waits s e → IsBlocking seat e
 blocks_by s seat e is (inl w) = inl (ap (λ (x : Slave). x.fifo.use_fifo) is ∙ w)
@@ -133,10 +118,10 @@ blocks_by s seat e is (inr (inr w)) = inr (inr w)
 duly_run : (s : Slave) (infos : List StreamInfo) (script : Option (List ℕ)) (before : ShelfState) (seat : Seat) (given : List Packet) (t : Track) (e : EndView)
     → IsSeat s infos script before seat → EndsOn given seat t e → IsKeptRun seat given e → EndsDuly s before e
 duly_run s infos script before seat given t e is on k = record {
-  failed = λ f. rw (ap (λ (x : ShelfState). x.faults) is.shelf_is) at (track_failed given seat t e on (notes_by e.lane seat given e k.accounts) f);
+  failed = λ f. rw (ap (λ (x : ShelfState). x.faults) is.shelf_is) at (track_failed given seat t e on f);
   closed = λ waits listless nf nw. holds_closed seat given e
       (k.whole (blocks_by s seat e is.slave waits) (λ r. nf (rw (ap (λ (x : ShelfState). x.faults) is.shelf_is) at r)) (λ r. nw (rw (ap (λ (x : ShelfState). x.wants) is.shelf_is) at r))
-      (λ w. not_both (asks_list seat.origin.seg) w.0 (ap asks_list is.seg ∙ listless)));
+      (λ w. both_ways (asks_list seat.origin.seg) (ap asks_list is.seg ∙ listless) w.0));
   sound = λ so. k.sound (ap (λ (x : ShelfState). x.sound) is.shelf_is ∙ so) ∙ ap (λ (x : ShelfState). x.faults) is.shelf_is;
 }
 
@@ -200,10 +185,6 @@ no_slave_failed es slaves shelves marks d c some =
 
 -- The text.
 
-nil_end : (xs : List ℕ) → xs ++ [] ≡ xs
-nil_end [] = refl
-nil_end (x ∷ xs) = ap (λ (ys : List ℕ). x ∷ ys) (nil_end xs)
-
 -- what was taken of it, and what is left
 record Cut (text bytes : List ℕ) (new : InputState) : Type 0 where
   rest : List ℕ
@@ -260,28 +241,17 @@ refused_by true true r s h e w = cc w
 refused_by true false r s h e w = unrefused r.verdict e h
 refused_by false o r s h e w = cc w
 
-flv_more : (b more : List ℕ) → 9 ≤ length b → is_flv (b ++ more) ≡ is_flv b
-flv_more b more long =
-    let len = length-append b more in
-    let x : nat_lt 8 (length (b ++ more)) ≡ true = lt-ltb 8 (length (b ++ more)) (omega (arith, len, long)) in
-    let y : nat_lt 8 (length b) ≡ true = lt-ltb 8 (length b) (omega (arith, long)) in
-    ap (λ (l : Bool). l && bytes_eq (take 4 (b ++ more)) (70 ∷ 76 ∷ 86 ∷ 1 ∷ [])) (x ∙ sym y)
-    ∙ ap (λ (t : List ℕ). nat_lt 8 (length b) && bytes_eq t (70 ∷ 76 ∷ 86 ∷ 1 ∷ [])) (take-append-le 4 b more (omega (arith, long)))
-
-offset_more : (b more : List ℕ) → 9 ≤ length b → offset_of (b ++ more) ≡ offset_of b
-offset_more b more long = ap number_of (window 5 4 b more (omega (arith, long)))
-
 not_refused_long : (b more : List ℕ) → 9 ≤ length b → is_refused (reading_of b).verdict ≡ true → (reading_of (b ++ more)).verdict ≡ None → ⊥
 not_refused_long b more long e w =
     refused_by (is_flv b) (nat_lt (offset_of b) 9) (reading_past (offset_of b) b) (reading_past (offset_of (b ++ more)) (b ++ more))
     (behind_past (nat_lt (length b) (offset_of b)) (reading_of_tags (drop (offset_of b) b)) (behind_tags (drop (offset_of b) b))) e
-    (ap (λ (f : Bool). (if f then (if nat_lt (offset_of b) 9 then only (Some fault.BadOffset) else reading_past (offset_of (b ++ more)) (b ++ more)) else only (Some fault.NotFlv)).verdict) (sym (flv_more b more long))
-    ∙ ap (λ (n : ℕ). (if is_flv (b ++ more) then (if nat_lt n 9 then only (Some fault.BadOffset) else reading_past (offset_of (b ++ more)) (b ++ more)) else only (Some fault.NotFlv)).verdict) (sym (offset_more b more long))
+    (ap (λ (f : Bool). (if f then (if nat_lt (offset_of b) 9 then only (Some fault.BadOffset) else reading_past (offset_of (b ++ more)) (b ++ more)) else only (Some fault.NotFlv)).verdict) (sym (is_flv_more b more long))
+    ∙ ap (λ (n : ℕ). (if is_flv (b ++ more) then (if nat_lt n 9 then only (Some fault.BadOffset) else reading_past (offset_of (b ++ more)) (b ++ more)) else only (Some fault.NotFlv)).verdict) (sym (offset_of_more b more long))
     ∙ w)
 
 -- all was taken
 all_taken : (text bytes : List ℕ) (new : InputState) → Cut text bytes new → SawEnd new → text ≡ bytes
-all_taken text bytes new c end = c.whole ∙ ap (λ (l : List ℕ). bytes ++ l) (c.ended end) ∙ nil_end bytes
+all_taken text bytes new c end = c.whole ∙ ap (λ (l : List ℕ). bytes ++ l) (c.ended end) ∙ append-nil bytes
 
 not_refused : (text bytes : List ℕ) (new : InputState) → Cut text bytes new → (9 ≤ length bytes) ⊎ SawEnd new → is_refused (reading_of bytes).verdict ≡ true → (reading_of text).verdict ≡ None → ⊥
 not_refused text bytes new c (inl long) e w = not_refused_long bytes c.rest long e (ap (λ (l : List ℕ). (reading_of l).verdict) (sym c.whole) ∙ w)

@@ -24,7 +24,7 @@ use Rattle.flv_demux.specs.declared.demuxer.DemuxFault.TheVariants as demux
 use Rattle.flv_demux.specs.Probe.{probe_of, is_decided, kinds_of, info_list, kinds, streams, has_stream, stream_count, numbered}
 use Rattle.flv_demux.specs.Deal.{packets_by}
 use Rattle.flv_demux.specs.State as state
-use Rattle.flv_demux.specs.State.{DemuxState, HasDealt, GivesPacket, DealsWithAll, Undecided, HasNoStreams, Settles, IsShown, IsTold, Passes, IsDecided, IsSure, Deals}
+use Rattle.flv_demux.specs.State.{DemuxState, HasDealt, GivesPacket, DealsWithAll, Undecided, Settles, IsShown, IsTold, IsDecided, IsSure}
 use Rattle.flv_demux.proofs.Demuxing.{sure_all, sure_decided, sure_readable}
 use Rattle.flv_demux.proofs.Probing.{probe_stays}
 use Rattle.flv_tags.proofs.Grow.{tags_grow}
@@ -37,9 +37,6 @@ kinds_in (Some x) (Some y) n = refl
 kinds_in (Some x) None n = refl
 kinds_in None (Some y) n = refl
 kinds_in None None n = refl
-
-same_some : (a b : Kinds) → Some a ≡ Some b → a ≡ b
-same_some a b e = cc
 
 -- what is told is known
 pub told_known : (d : DemuxState) (s : Kinds) → told d ≡ Some s → (d.shown.known ≡ true) × (d.core.known ≡ Some s)
@@ -295,18 +292,6 @@ told_fed fed piece done old new h k e o = told_stays fed (fed ++ piece) done old
 
 pub told_ended : (fed : List ℕ) (done : List Tag) (old new : DemuxState) → HasDealt fed done old → HasDealt fed done new → new.shown ≡ old.shown → told new ≡ told old
 told_ended fed done old new h k e = told_stays fed fed done old new h k e (λ w. refl)
-
--- whether it is told
-pub tells : (fed : List ℕ) (done : List Tag) (d : DemuxState) → HasDealt fed done d → d.shown.known ≡ is_some (told d)
-tells fed done d h = by d.shown.known refl h.shown
-  where
-    no : false ≡ true → ⊥
-    no h = cc
-
-    by : (b : Bool) → d.shown.known ≡ b → IsShown done d → d.shown.known ≡ is_some (told d)
-    by false f w = f ∙ sym (ap is_some (told_none d f))
-    by true f (inl (u, n)) = absurd (no (sym (ap (λ (s : Shown). s.known) u) ∙ f))
-    by true f (inr (x, e, w)) = f ∙ sym (ap is_some (told_some d x f e))
 
 pub told_after : {T E : Type 0} (r : Result T E) (piece : List ℕ) (old new : DemuxState) → OnOk r ((fed : List ℕ) (done : List Tag) → HasDealt fed done old → HasDealt (fed ++ piece) done new) → OnErr r (new ≡ old) → new.shown ≡ old.shown → old.core.reader.ended ≡ false →
     (fed : List ℕ) (done : List Tag) → HasDealt fed done old → told new ≡ told old

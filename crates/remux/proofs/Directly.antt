@@ -1,5 +1,6 @@
 -- A run without threads is one of those that may have some.
-use Rattle.std.proofs.Common.{◌≡◌, ℕ, inl, inr, Bool, true, false, ◌||◌, List, [], ◌∷◌, map, ap, ◌∙◌, sym, refl, subst, Option}
+use Rattle.std.proofs.Common.{◌≡◌, ℕ, inl, inr, Bool, false, ◌||◌, List, [], ◌∷◌, map, ap, ◌∙◌, sym, refl, subst, Option}
+use Rattle.std.proofs.lemmas.Bool.{or_parts}
 use Rattle.fifo_core.specs.History.{History}
 use Rattle.rmx_edge.specs.Inputs.{InputState}
 use Rattle.rmx_edge.specs.Shelf.{ShelfState}
@@ -35,17 +36,13 @@ pub threads_seen : (slaves : List SlavePlan) → has_threads (map view slaves) �
 threads_seen [] = refl
 threads_seen (s ∷ ss) = ap (λ (b : Bool). s.fifo.use_fifo || b) (threads_seen ss)
 
-neither : (a b : Bool) → (a || b) ≡ false → (a ≡ false) × (b ≡ false)
-neither true b e = cc
-neither false b e = (refl, e)
-
 pub threadless : {S : Type 0} (state : S → ShelfState) (infos : List StreamInfo) (script : Option (List ℕ)) (slaves : List Slave) (shelves : List S) (seats : List Seat) (rest : List S) → AreSeats state infos script slaves shelves seats rest → has_threads slaves ≡ false → AreThreadless seats
 threadless state infos script [] shelves [] rest a e = tt
 threadless state infos script [] shelves (seat ∷ seats) rest a e = absurd a
 threadless state infos script (s ∷ ss) [] seats rest a e = absurd a
 threadless state infos script (s ∷ ss) (x ∷ xs) [] rest a e = absurd a
 threadless state infos script (s ∷ ss) (x ∷ xs) (seat ∷ seats) rest a e =
-    let n = neither s.fifo.use_fifo (has_threads ss) e in
+    let n = or_parts s.fifo.use_fifo (has_threads ss) e in
     (ap (λ (t : Slave). t.fifo.use_fifo) a.0.slave ∙ n.0, threadless state infos script ss xs seats rest a.1 n.1)
 
 abbrev here : History → Track

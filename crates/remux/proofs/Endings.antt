@@ -1,7 +1,9 @@
 -- How outputs end, seen from the run.
-use Rattle.std.proofs.Common.{◌≡◌, ℕ, ◌+◌, ◌<◌, ◌≤◌, Bool, true, false, List, [], ◌∷◌, length, map, ap, ◌∙◌, sym, refl, subst, arith, Option, Some}
+use Rattle.std.proofs.Common.{◌≡◌, ℕ, ◌+◌, ◌<◌, ◌≤◌, Bool, false, List, [], ◌∷◌, length, map, ap, ◌∙◌, sym, refl, subst, arith, Option, Some}
 use Rattle.std.specs.Prelude.{zero, suc, drop, get_or, ◌^◌, ◌||◌, ◌&&◌, if◌then◌else◌}
 use Rattle.std.specs.List.{list_all}
+use Rattle.std.proofs.Math.Bool.{and-false}
+use Rattle.std.proofs.lemmas.List.{length-map}
 use Rattle.rmx_edge.specs.Shelf.{ShelfState}
 use Rattle.rmx_media.specs.declared.packet.Packet.{Packet}
 use Rattle.fifo_core.specs.History.{History}
@@ -30,11 +32,6 @@ pub aborts_seen : (slaves : List SlavePlan) → map (λ (s : Slave). s.abort) (m
 aborts_seen [] = refl
 aborts_seen (s ∷ ss) = ap (λ (l : List Bool). s.abort ∷ l) (aborts_seen ss)
 
--- there are as many as they are made of
-pub count_mapped : {A B : Type 0} (f : A → B) (xs : List A) → length (map f xs) ≡ length xs
-count_mapped f [] = refl
-count_mapped f (x ∷ xs) = ap (λ (n : ℕ). suc n) (count_mapped f xs)
-
 pub as_many : (seats : List Seat) (given : List Packet) (hs : List History) (es : List EndView) → AllEnded seats given hs es → length es ≡ length seats
 as_many [] given [] [] a = refl
 as_many [] given [] (e ∷ es) a = absurd a
@@ -43,17 +40,21 @@ as_many (s ∷ ss) given [] es a = absurd a
 as_many (s ∷ ss) given (h ∷ hs) [] a = absurd a
 as_many (s ∷ ss) given (h ∷ hs) (e ∷ es) a = ap (λ (n : ℕ). suc n) (as_many ss given hs es a.1)
 
-pub as_many_ends : {S : Type 0} (state : S → ShelfState) (seats : List Seat) (given : List Packet) (dead : ℕ → Bool) (ends : List (SlaveEnd S)) (slaves : List SlavePlan) → EndsAll seats given dead (map (end_view state) ends) → aborts seats ≡ map (λ (s : Slave). s.abort) (map view slaves) → length slaves ≡ length ends
-as_many_ends state seats given dead ends slaves a e =
+-- where there is an end for each output, there are as many as plans
+pub as_many_plans : {S : Type 0} (state : S → ShelfState) (seats : List Seat) (ends : List (SlaveEnd S)) (slaves : List SlavePlan) → length (map (end_view state) ends) ≡ length seats → aborts seats ≡ map (λ (s : Slave). s.abort) (map view slaves) → length slaves ≡ length ends
+as_many_plans state seats ends slaves n e =
     omega (
       arith,
-      as_many seats given a.histories (map (end_view state) ends) a.each,
-      count_mapped (end_view state) ends,
-      count_mapped (λ (s : Seat). s.slave.abort) seats,
-      count_mapped (λ (s : Slave). s.abort) (map view slaves),
-      count_mapped view slaves,
+      n,
+      length-map ends (end_view state),
+      length-map seats (λ (s : Seat). s.slave.abort),
+      length-map (map view slaves) (λ (s : Slave). s.abort),
+      length-map slaves view,
       ap length e,
     )
+
+pub as_many_ends : {S : Type 0} (state : S → ShelfState) (seats : List Seat) (given : List Packet) (dead : ℕ → Bool) (ends : List (SlaveEnd S)) (slaves : List SlavePlan) → EndsAll seats given dead (map (end_view state) ends) → aborts seats ≡ map (λ (s : Slave). s.abort) (map view slaves) → length slaves ≡ length ends
+as_many_ends state seats given dead ends slaves a e = as_many_plans state seats ends slaves (as_many seats given a.histories (map (end_view state) ends) a.each) e
 
 -- what is promised of each
 pub all_kept : NoFaultNoLoss → EndsMeetAccounts → (seats : List Seat) (given : List Packet) (hs : List History) (es : List EndView) → AllEnded seats given hs es → AreKept seats given es
@@ -92,10 +93,6 @@ pub failed_by : {S : Type 0} (slaves : List SlavePlan) (ends : List (SlaveEnd S)
 failed_by slaves ends result e = e ∙ ap (λ (o : Option ℕ). failed_in o (each_failed ends)) (first_states 0 slaves ends) ∙ ap (λ (b : Bool). failed_in (first_failed_from 0 (aborts_of slaves) (states ends)) b) (all_states ends)
 
 -- an output that doesn't abort, or didn't fail, isn't the first
-quiet : (b : Bool) → (b && false) ≡ false
-quiet true = refl
-quiet false = refl
-
 pass_calm : {S : Type 0} (n k : ℕ) (slaves : List SlavePlan) (ends : List (SlaveEnd S)) (s : SlavePlan) → k < length slaves → length slaves ≡ length ends → s ≡ get_or slaves k s → s.abort ≡ false → first_failed n (drop k slaves) (drop k ends) ≡ first_failed (n + 1) (drop (suc k) slaves) (drop (suc k) ends)
 pass_calm n k [] ends s lt same e calm_is = absurd (omega (arith, lt))
 pass_calm n k (x ∷ xs) [] s lt same e calm_is = absurd (omega (arith, same))
@@ -109,7 +106,7 @@ pass_whole n k [] ends d lt same e calm_is = absurd (omega (arith, lt))
 pass_whole n k (x ∷ xs) [] d lt same e calm_is = absurd (omega (arith, same))
 pass_whole n zero (x ∷ xs) (y ∷ ys) d lt same e calm_is =
     let whole : is_failed y.state ≡ false = ap (λ (q : SlaveEnd _). is_failed q.state) (sym e) ∙ calm_is in
-    ap (λ (b : Bool). if b then Some n else first_failed (n + 1) xs ys) (ap (λ (b : Bool). x.abort && b) whole ∙ quiet x.abort)
+    ap (λ (b : Bool). if b then Some n else first_failed (n + 1) xs ys) (ap (λ (b : Bool). x.abort && b) whole ∙ and-false x.abort)
 pass_whole n (suc k) (x ∷ xs) (y ∷ ys) d lt same e calm_is = pass_whole n k xs ys d (omega (arith, lt)) (omega (arith, same)) e calm_is
 
 -- so the search goes on behind it

@@ -1,14 +1,14 @@
 -- What is given at the end.
-use Rattle.std.proofs.Common.{◌≡◌, ℕ, ◌+◌, Bool, true, false, ◌||◌, ◌&&◌, List, [], ◌∷◌, ◌++◌, length, append_assoc, ap, ◌∙◌, sym, refl, subst, arith, length-append, None}
-use Rattle.std.specs.Prelude.{is_some}
+use Rattle.std.proofs.Common.{◌≡◌, ℕ, ◌+◌, Bool, true, false, List, [], ◌∷◌, ◌++◌, length, append_assoc, ap, ◌∙◌, sym, refl, subst, arith, length-append}
+use Rattle.std.proofs.lemmas.List.{append-nil}
 use Rattle.rmx_media.specs.declared.packet.Packet.{Packet}
-use Rattle.interleaver.specs.Interleave.{Line, may_go, interleave}
-use Rattle.interleaver.specs.Queues.{Pending, Pops, goes, front_dts}
+use Rattle.interleaver.specs.Interleave.{Line, interleave}
+use Rattle.interleaver.specs.Queues.{Pending, goes}
 use Rattle.interleaver.proofs.Steps.{lined_stuck}
 use Rattle.remux.specs.Fed.{Takes}
 use Rattle.remux.specs.Flow.{Flow}
 use Rattle.remux.specs.Gave.{Advances, Flushed, FlushedSome}
-use Rattle.remux.proofs.Giving.{advances_still, append_nil, no_rise, one_rise}
+use Rattle.remux.proofs.Giving.{advances_still, no_rise, one_rise}
 use Rattle.remux.proofs.Handing.{stuck_line}
 
 -- some was given, and this is left
@@ -19,7 +19,7 @@ pub record Flushing (pending rest : List Packet) (kept keeps : List Packet → T
   pub dead : (given : List Packet) → kept given → Advances false old new (length given) (length given + length packets)
 
 pub flush_start : (pending : List Packet) (k : List Packet → Type 0) (d : ℕ → Bool) → Flushing pending pending k k d d
-flush_start pending k d = record { packets = []; whole = refl; keeps_all = λ given h. subst k (sym (append_nil given)) h; dead = λ given h. no_rise d (length given) }
+flush_start pending k d = record { packets = []; whole = refl; keeps_all = λ given h. subst k (sym (append-nil given)) h; dead = λ given h. no_rise d (length given) }
 
 pub flush_one : (stopped : Bool) (pending rest now : List Packet) (p : Packet) (k0 k1 k2 : List Packet → Type 0) (d0 d1 d2 : ℕ → Bool) →
     (f : Flushing pending now k0 k1 d0 d1) → now ≡ p ∷ rest → Takes stopped p k1 k2 d1 d2 →
@@ -49,34 +49,6 @@ flush_stop pending rest now p k0 k1 k2 d0 d1 d2 f e t =
     record { packets = f.packets ++ p ∷ []; whole = r.0; all = λ h. absurd (no h); some = λ h. omega (arith, length-append f.packets (p ∷ [])); keeps_all = r.1; dead = r.2 }
   where
     no : true ≡ false → ⊥
-    no h = cc
-
-finished_none : (v : Pending) → v.finished ≡ true → goes v ≡ false → v.pending ≡ []
-finished_none v f g = by v.pending (may_go v.streams v.delta v.pending) v.finished f g
-  where
-    by : (q : List Packet) (m b : Bool) → b ≡ true → ((b && is_some (front_dts q)) || m) ≡ false → q ≡ []
-    by [] m b f g = refl
-    by (x ∷ xs) m false f g = absurd (no f)
-      where
-        no : false ≡ true → ⊥
-        no h = cc
-    by (x ∷ xs) m true f g = absurd (no g)
-      where
-        no : true ≡ false → ⊥
-        no h = cc
-
-pub flush_all : (pending : List Packet) (now next : Pending) (k0 k1 : List Packet → Type 0) (d0 d1 : ℕ → Bool) →
-    Flushing pending now.pending k0 k1 d0 d1 → now.finished ≡ true → Pops None now next → Flushed false pending next.pending k0 k1 d0 d1
-flush_all pending now next k0 k1 d0 d1 f fin h = record {
-  packets = f.packets;
-  whole = f.whole ∙ ap (λ (v : Pending). f.packets ++ v.pending) (sym h.1);
-  all = λ e. ap (λ (v : Pending). v.pending) h.1 ∙ finished_none now fin h.0;
-  some = λ e. absurd (no e);
-  keeps_all = f.keeps_all;
-  dead = f.dead;
-}
-  where
-    no : false ≡ true → ⊥
     no h = cc
 
 -- memory was wanted on the way

@@ -1,16 +1,10 @@
 -- The generated text from a place on.
-use Rattle.std.proofs.Common.{◌≡◌, ◌≤◌, ◌<◌, ℕ, zero, suc, ◌+◌, ◌-◌, ◌*◌, nat_lt, Bool, true, false, List, [], ◌∷◌, ◌++◌, arith, refl, ap, ◌∙◌, append_assoc}
+use Rattle.std.proofs.Common.{◌≡◌, ◌≤◌, ◌<◌, ℕ, zero, suc, ◌+◌, ◌-◌, ◌*◌, nat_lt, Bool, false, List, [], ◌∷◌, ◌++◌, arith, refl, ap, ◌∙◌, append_assoc}
 use Rattle.std.specs.Prelude.{◌&&◌, not, filter, flat_map, if◌then◌else◌}
 use Rattle.std.specs.List.{range_with_len}
-use Rattle.std.proofs.lemmas.Bool.Decides.{nat_tests}
+use Rattle.std.proofs.lemmas.Bool.{lt-ltb, le-ltb}
 use Rattle.remux.specs.Generated.{generated, head_text, picture_text, sound_text, shown_text, sounds_with}
 use Rattle.remux.specs.Making.{before, rest_from}
-
-is_below : (m n : ℕ) → m < n → nat_lt m n ≡ true
-is_below m n h = grind (arith, nat_tests)
-
-isn't_below : (m n : ℕ) → n ≤ m → nat_lt m n ≡ false
-isn't_below m n h = grind (arith, nat_tests)
 
 -- no number of a range passes
 none_pass : (p : ℕ → Bool) (a n : ℕ) → ((x : ℕ) → a ≤ x → p x ≡ false) → filter p (range_with_len a n) ≡ []
@@ -39,7 +33,7 @@ agreeing p q a (suc n) h =
 sound_first : (j m k : ℕ) → 23 * m < 40 * j → 2 * j - m ≡ suc k → before j m ≡ m ∷ before j (m + 1)
 sound_first j m k l e =
     ap (λ (n : ℕ). filter (λ x. nat_lt (23 * x) (40 * j)) (range_with_len m n)) e
-    ∙ ap (λ (b : Bool). if b then m ∷ filter (λ x. nat_lt (23 * x) (40 * j)) (range_with_len (m + 1) k) else filter (λ x. nat_lt (23 * x) (40 * j)) (range_with_len (m + 1) k)) (is_below (23 * m) (40 * j) l)
+    ∙ ap (λ (b : Bool). if b then m ∷ filter (λ x. nat_lt (23 * x) (40 * j)) (range_with_len (m + 1) k) else filter (λ x. nat_lt (23 * x) (40 * j)) (range_with_len (m + 1) k)) (lt-ltb (23 * m) (40 * j) l)
     ∙ ap (λ (n : ℕ). m ∷ filter (λ x. nat_lt (23 * x) (40 * j)) (range_with_len (m + 1) n)) (omega (arith, e))
 
 pub sound_next : (count j m : ℕ) → 23 * m < 40 * j → rest_from count j m ≡ sound_text m ++ rest_from count j (m + 1)
@@ -48,16 +42,16 @@ sound_next count j m l =
     ∙ append_assoc (sound_text m) (flat_map sound_text (before j (m + 1))) (flat_map shown_text (range_with_len j (count - j)))
 
 nothing_before : (j m : ℕ) → 40 * j ≤ 23 * m → before j m ≡ []
-nothing_before j m l = none_pass (λ x. nat_lt (23 * x) (40 * j)) m (2 * j - m) (λ x h. isn't_below (23 * x) (40 * j) (omega (arith, l, h)))
+nothing_before j m l = none_pass (λ x. nat_lt (23 * x) (40 * j)) m (2 * j - m) (λ x h. le-ltb (23 * x) (40 * j) (omega (arith, l, h)))
 
 abbrev within : ℕ → ℕ → Bool
 within j x = not (nat_lt (23 * x) (40 * j)) && nat_lt (23 * x) (40 * (j + 1))
 
 is_within : (j m x : ℕ) → 40 * j ≤ 23 * m → m ≤ x → within j x ≡ nat_lt (23 * x) (40 * (j + 1))
-is_within j m x l h = ap (λ (b : Bool). not b && nat_lt (23 * x) (40 * (j + 1))) (isn't_below (23 * x) (40 * j) (omega (arith, l, h)))
+is_within j m x l h = ap (λ (b : Bool). not b && nat_lt (23 * x) (40 * (j + 1))) (le-ltb (23 * x) (40 * j) (omega (arith, l, h)))
 
 too_early : (j m x : ℕ) → 23 * m < 40 * j + 23 → x < 0 + m → within j x ≡ false
-too_early j m x l h = ap (λ (b : Bool). not b && nat_lt (23 * x) (40 * (j + 1))) (is_below (23 * x) (40 * j) (omega (arith, l, h)))
+too_early j m x l h = ap (λ (b : Bool). not b && nat_lt (23 * x) (40 * (j + 1))) (lt-ltb (23 * x) (40 * j) (omega (arith, l, h)))
 
 sounds_are : (j m : ℕ) → 40 * j ≤ 23 * m → 23 * m < 40 * j + 23 → sounds_with j ≡ before (j + 1) m
 sounds_are j m l h =

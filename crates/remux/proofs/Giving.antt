@@ -3,6 +3,7 @@ use Rattle.std.proofs.Common.{◌≡◌, ℕ, ◌+◌, ◌<◌, ◌≤◌, ◌�
 use Rattle.std.specs.Prelude.{ℤ, is_some}
 use Rattle.std.specs.Prelude.{if◌then◌else◌}
 use Rattle.std.proofs.lemmas.Bool.{cases_lt}
+use Rattle.std.proofs.lemmas.List.{append-nil}
 use Rattle.rmx_media.specs.declared.packet.Packet.{Packet}
 use Rattle.interleaver.specs.Interleave.{Line, release, may_go}
 use Rattle.interleaver.proofs.Steps.{release_adds}
@@ -12,10 +13,6 @@ use Rattle.remux.specs.Fed.{Takes}
 use Rattle.remux.specs.Gave.{Advances, Gave, GaveSome}
 use Rattle.remux.specs.Handed.{GaveAll}
 
-pub append_nil : (xs : List Packet) → xs ++ [] ≡ xs
-append_nil [] = refl
-append_nil (x ∷ xs) = ap (λ (ys : List Packet). x ∷ ys) (append_nil xs)
-
 pub no_rise : (dead : ℕ → Bool) (n : ℕ) → Advances false dead dead n (n + 0)
 no_rise dead n = record { same = λ u h. refl; alive = λ u h k. absurd (omega arith); last = λ h. absurd (omega arith) }
 
@@ -23,8 +20,8 @@ pub gave_none : (n delta : ℕ) (pending : List Packet) (kept : List Packet → 
 gave_none n delta pending kept dead = record {
   packets = [];
   some = λ e. absurd (no e);
-  line = λ out. ap (λ (o : List Packet). release n delta o pending) (sym (append_nil out));
-  keeps_all = λ given k. subst kept (sym (append_nil given)) k;
+  line = λ out. ap (λ (o : List Packet). release n delta o pending) (sym (append-nil out));
+  keeps_all = λ given k. subst kept (sym (append-nil given)) k;
   dead = λ given k. no_rise dead (length given);
 }
   where

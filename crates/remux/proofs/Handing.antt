@@ -2,6 +2,7 @@
 use Rattle.std.proofs.Common.{◌≡◌, ℕ, ◌-◌, ◌<◌, Bool, true, false, ◌||◌, ◌&&◌, List, [], ◌∷◌, ◌++◌, length, ap, ◌∙◌, sym, refl, subst, arith, zero, suc}
 use Rattle.std.specs.Prelude.{if◌then◌else◌, ◌==◌, ℤ, negsuc, is_some, Result, Ok, Err, IfOk, OnErr}
 use Rattle.std.proofs.lemmas.List.Sums.{fold-append}
+use Rattle.std.proofs.lemmas.List.{append-nil}
 use Rattle.rmx_media.specs.declared.packet.Packet.{Packet}
 use Rattle.interleaver.specs.Interleave.{Line, release, may_go, IsLined, emitted}
 use Rattle.interleaver.specs.Queues.{Pending, Pushed, goes, last_of, front_dts}
@@ -62,10 +63,6 @@ pub if_ok : {T E : Type 0} (r : Result T E) (P Q : T → Type 0) → IfOk r P �
 if_ok (Ok x) P Q h f = f x h
 if_ok (Err e) P Q h f = h
 
-append_nil : (xs : List Packet) → xs ++ [] ≡ xs
-append_nil [] = refl
-append_nil (x ∷ xs) = ap (λ (ys : List Packet). x ∷ ys) (append_nil xs)
-
 pub on_err : {T E : Type 0} (r : Result T E) (P : Type 0) (Q : Type 0) → OnErr r P → (P → Q) → OnErr r Q
 on_err (Ok x) P Q h f = h
 on_err (Err e) P Q h f = f h
@@ -95,7 +92,7 @@ not_pushed old p k0 d0 packets given stuck f k =
     record {
       more = [];
       rest = r.0;
-      kept = subst k0 (sym (append_nil given)) k;
-      order = r.1 ∙ ap (λ (xs : List Packet). xs ++ r.0) (e ∙ sym (append_nil given));
+      kept = subst k0 (sym (append-nil given)) k;
+      order = r.1 ∙ ap (λ (xs : List Packet). xs ++ r.0) (e ∙ sym (append-nil given));
       advances = no_rise d0 (length given);
     }

@@ -1,5 +1,6 @@
 -- How many outputs the reader wrote in place of their threads.
 use Rattle.std.proofs.Common.{◌≡◌, ℕ, ◌+◌, inl, inr, Bool, true, false, List, [], ◌∷◌, map, ap, ◌∙◌, sym, refl, subst, arith}
+use Rattle.lane.specs.Ring.{one_if}
 use Rattle.std.specs.Prelude.{cond}
 use Rattle.std.proofs.lemmas.List.Recursion.{is_count_by}
 use Rattle.fifo_core.specs.History.{History}
@@ -14,7 +15,6 @@ use Rattle.tee.specs.Ends.{AllEnded}
 use Rattle.tee.specs.RunEnds.{inline_ends}
 use Rattle.tee.specs.RunKeeps.{IsCounted}
 use Rattle.tee.specs.Seat.{Seat}
-use Rattle.tee.specs.Tracks.{one_if}
 use Rattle.remux.specs.Asked.{Asked}
 use Rattle.remux.specs.Outcome.{ComesFrom, ComesTo, IsNothing, with_status}
 use Rattle.remux.specs.Threads.{inlines, InlinesWithin}

@@ -1,6 +1,7 @@
 -- What is promised of each output of a run is kept.
-use Rattle.std.proofs.Common.{◌≡◌, ℕ, inl, inr, Bool, true, false, List, [], ◌∷◌, length, map, ap, ◌∙◌, sym, refl, subst, arith, Option}
-use Rattle.std.specs.Prelude.{suc, if◌then◌else◌}
+use Rattle.std.proofs.Common.{◌≡◌, ℕ, inl, inr, Bool, false, List, [], ◌∷◌, length, map, ap, ◌∙◌, sym, subst, Option}
+use Rattle.std.specs.Prelude.{if◌then◌else◌}
+use Rattle.std.proofs.lemmas.Bool.{both_ways}
 use Rattle.fifo_core.specs.declared.types.FifoOptions.{FifoOptions}
 use Rattle.fifo_core.specs.declared.types.EndState.TheVariants as ends
 use Rattle.fifo_core.specs.History.{History}
@@ -21,9 +22,11 @@ use Rattle.tee.specs.Each.{Each3}
 use Rattle.tee.specs.RunEnds.{EndsAllRun, EndsHere, EndsThere, EndsOn}
 use Rattle.tee.specs.Seat.{Seat, aborts, chosen}
 use Rattle.tee.specs.Tracks.{Track, Here, There}
+use Rattle.tee.specs.Schedule.{IsBlocking}
+use Rattle.tee.proofs.Places.{each_length}
 use Rattle.remux.proofs.Blocking.{plain_end}
-use Rattle.remux.proofs.Endings.{count_mapped}
-use Rattle.remux.specs.KeptRun.{AccountsBy, IsBlocking, IsKeptRun, AreKeptRun}
+use Rattle.remux.specs.KeptRun.{AccountsBy, IsKeptRun, AreKeptRun}
+use Rattle.remux.proofs.Endings.{as_many_plans}
 
 -- accounts say nothing of who wrote the output
 accounts_here : (g : Origin) (o : FifoOptions) (L : List Packet) (e : EndView) → Accounts g o L (record e { inline = false }) → Accounts g o L e
@@ -70,9 +73,6 @@ holds_there g L note old e short a none h =
       bytes = a.bytes ∙ h.bytes;
     }
 
-both_ways : (b : Bool) → b ≡ true → b ≡ false → ⊥
-both_ways b t f = (let x : true ≡ false = sym t ∙ f in cc x)
-
 kept_there : NoFaultNoLoss → (seat : Seat) (given : List Packet) (told : Option ℕ) (e : EndView) → EndsThere seat given told e → IsKeptRun seat given e
 kept_there loss seat given told e k = record {
   accounts = subst (λ (n : Option LaneNote). AccountsBy n seat.origin seat.slave.fifo L e) (sym k.accounts.lane) k.accounts;
@@ -95,9 +95,9 @@ kept_there loss seat given told e k = record {
         (λ r. l (r.0, state ∙ r.1)))
 
     by : IsBlocking seat e → (Rose seat.origin.shelf.faults e.shelf.faults → ⊥) → (Rose seat.origin.shelf.wants e.shelf.wants → ⊥) → (WantsForList seat.origin e → ⊥) → HoldsAll seat.origin L e
-    by (inl here) f w l = absurd (both_ways seat.slave.fifo.use_fifo k.noted.threaded here)
+    by (inl here) f w l = absurd (both_ways seat.slave.fifo.use_fifo here k.noted.threaded)
     by (inr (inl d)) f w l = waits d f w l
-    by (inr (inr inline)) f w l = absurd (both_ways e.inline inline k.inline)
+    by (inr (inr inline)) f w l = absurd (both_ways e.inline k.inline inline)
 
 kept_on : NoFaultNoLoss → EndsMeetAccounts → (seat : Seat) (given : List Packet) (t : Track) (e : EndView) → EndsOn given seat t e → IsKeptRun seat given e
 kept_on loss meets seat given (Here h) e k = kept_here loss meets seat given h e k
@@ -111,23 +111,6 @@ all_kept_run loss meets (s ∷ ss) given [] es a = absurd a
 all_kept_run loss meets (s ∷ ss) given (t ∷ ts) [] a = absurd a
 all_kept_run loss meets (s ∷ ss) given (t ∷ ts) (e ∷ es) a = (kept_on loss meets s given t e a.0, all_kept_run loss meets ss given ts es a.1)
 
--- there is an end for each output
-pub as_many_run : (seats : List Seat) (given : List Packet) (ts : List Track) (es : List EndView) → Each3 (EndsOn given) seats ts es → length es ≡ length seats
-as_many_run [] given [] [] a = refl
-as_many_run [] given [] (e ∷ es) a = absurd a
-as_many_run [] given (t ∷ ts) es a = absurd a
-as_many_run (s ∷ ss) given [] es a = absurd a
-as_many_run (s ∷ ss) given (t ∷ ts) [] a = absurd a
-as_many_run (s ∷ ss) given (t ∷ ts) (e ∷ es) a = ap (λ (n : ℕ). suc n) (as_many_run ss given ts es a.1)
-
 pub as_many_ends_run : {S : Type 0} (state : S → ShelfState) (seats : List Seat) (given : List Packet) (dead : ℕ → Bool) (ends : List (SlaveEnd S)) (slaves : List SlavePlan) → EndsAllRun seats given dead (map (end_view state) ends) → aborts seats ≡ map (λ (s : Slave). s.abort) (map view slaves) → length slaves ≡ length ends
 as_many_ends_run state seats given dead ends slaves a e =
-    omega (
-      arith,
-      as_many_run seats given a.tracks (map (end_view state) ends) a.each,
-      count_mapped (end_view state) ends,
-      count_mapped (λ (s : Seat). s.slave.abort) seats,
-      count_mapped (λ (s : Slave). s.abort) (map view slaves),
-      count_mapped view slaves,
-      ap length e,
-    )
+    as_many_plans state seats ends slaves (sym (each_length (EndsOn given) seats a.tracks (map (end_view state) ends) a.each)) e

@@ -22,5 +22,4 @@ pub mod Directly
 pub mod Inlining
 pub mod Generating
 pub mod MadeTags
-pub mod Failing
 pub mod Completing

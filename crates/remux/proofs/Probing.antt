@@ -9,6 +9,7 @@ use Rattle.flv_demux.specs.Probe.{probe_of, is_decided}
 use Rattle.flv_demux.proofs.Probing.{probe_of-none, probe_stays}
 use Rattle.rmx_edge.specs.Count.{Rose}
 use Rattle.rmx_edge.specs.Inputs.{InputState}
+use Rattle.rmx_edge.proofs.Run.{rose_later}
 use Rattle.remux.specs.declared.probe.Reached.{Reached}
 use Rattle.remux.specs.declared.probe.Reached.TheVariants as reached
 use Rattle.remux.specs.declared.probe.Unfound.{Unfound}
@@ -18,7 +19,7 @@ use Rattle.remux.specs.Demuxed.{Finds, Waits}
 use Rattle.remux.specs.Finding.{Looks, LateProbe, ByReached, Taking, Seeks, FoundIn, Broke, Finding, SeeksOn}
 use Rattle.remux.specs.Took.{Took, Piece, Dropped, SawEnd}
 use Rattle.remux.proofs.Taking.{took_two, took_none}
-use Rattle.remux.proofs.Reading.{still, took_still, rose_since}
+use Rattle.remux.proofs.Reading.{still, took_still}
 
 pub not_both : (b : Bool) → b ≡ true → b ≡ false → ⊥
 not_both b t f = no (sym t ∙ f)
@@ -60,12 +61,6 @@ late_piece b piece small e = record {
   small = small;
   undecided = λ p rest w. undecided_before p rest (subst (λ (x : List ℕ). is_decided (probe_of (reading_of x).tags) ≡ false) w e);
 }
-
--- the reading can go on where the end wasn't told
-pub goes_on : (r : Reached) (b : List ℕ) (ended : Bool) (left : ℕ) (now : InputState) → ByReached r b ended left now → ended ≡ false → now.readable ≡ true
-goes_on reached.More b ended left now h e = h.1
-goes_on reached.End b ended left now h e = absurd (not_both ended h.0 e)
-goes_on reached.Limit b ended left now h e = absurd (not_both ended h.0 e)
 
 taking_of : (limit left : ℕ) (r : Reached) (old new : InputState) (ended : Bool) (known : Option Kinds) (has : List ℕ → List Tag → Type 0) → (k : Seeks limit left r old new ended known has) → Taking limit old new k.bytes
 taking_of limit left r old new ended known has k = record { long = omega (arith, k.long); took = k.took }
@@ -167,7 +162,7 @@ broke_by limit left b st0 st1 st2 e0 kn1 h1 h2 long took q p le rose some = reco
   bytes = b;
   taking = record { long = omega arith; took = took_still b st0 st1 st2 h1 h2 took p };
   fewer = omega (arith, long, some);
-  rose = rose_since st0.faults st1.faults st2.faults le rose;
+  rose = rose_later st0.faults st1.faults st2.faults le rose;
   undecided = q.undecided;
   calm = q.calm;
 }
@@ -176,10 +171,6 @@ pub lost_by : (limit left : ℕ) (b : List ℕ) (st0 st1 st2 : InputState) (h1 h
     length b + left ≡ limit → Took b st0 st1 → Dropped left st1 st2 h1 h2 → (bytes : List ℕ) × Taking limit st0 st2 bytes
 lost_by limit left b st0 st1 st2 h1 h2 long took p =
     (b ++ p.bytes, record { long = omega (arith, p.long, length-append b p.bytes); took = took_two b p.bytes st0 st1 st2 took p.took })
-
-pub taken_so_far : (limit left : ℕ) (r : Reached) (st0 st1 : InputState) (e0 : Bool) (kn0 : Option Kinds) (h0 : List ℕ → List Tag → Type 0) →
-    Seeks limit left r st0 st1 e0 kn0 h0 → (bytes : List ℕ) × Taking limit st0 st1 bytes
-taken_so_far limit left r st0 st1 e0 kn0 h0 k = (k.bytes, taking_of limit left r st0 st1 e0 kn0 h0 k)
 
 -- a search that went on in vain
 pub sought : (u : Unfound) (limit : ℕ) (old new : InputState) (e : Bool) (kn : Option Kinds) (h : List ℕ → List Tag → Type 0) → SeeksOn (Err u) limit old new e kn h → Finding (Err u) limit old new e kn h

@@ -2,6 +2,7 @@
 use Rattle.std.proofs.Common.{◌≡◌, ℕ, ◌+◌, ◌<◌, ◌≤◌, ◌⊎◌, inl, inr, Bool, true, false, List, [], ◌∷◌, ◌++◌, length, ap, ◌∙◌, sym, refl, subst, arith, zero, suc, length-append, append_assoc, Option, Some}
 use Rattle.std.specs.Prelude.{ℤ, ◌≤ℤ◌}
 use Rattle.std.proofs.lemmas.Bool.{cases_lt}
+use Rattle.std.proofs.lemmas.List.{append-nil}
 use Rattle.rmx_media.specs.declared.packet.Packet.{Packet}
 use Rattle.flv_tags.specs.declared.tag.Tag.{Tag}
 use Rattle.flv_tags.specs.Tags.{reading_of}
@@ -103,10 +104,6 @@ stopped_by s b kn0 h0 h1 v0 v1 k0 k1 d0 d1 t0 p done f dn gv n e h =
       alive = λ u l m. dies_later d0 d1 (length f.given) (length h.more) h.advances f.alive u l (omega arith);
     }
 
-tags_end : (xs : List Tag) → xs ++ [] ≡ xs
-tags_end [] = refl
-tags_end (x ∷ xs) = ap (λ (ys : List Tag). x ∷ ys) (tags_end xs)
-
 -- no further packet
 pub all_given : (s : Kinds) (b : List ℕ) (kn0 kn1 : Option Kinds) (h0 h1 : List ℕ → List Tag → Type 0) (v : Pending) (k : List Packet → Type 0) (d : ℕ → Bool) (t : Packet → Type 0) →
     (f : Flowing s b kn0 h0 v k d t) → kn1 ≡ Some s → NoMore s b f.tags (h1 b) → AllGiven s b kn1 h1 v k d t
@@ -117,7 +114,7 @@ all_given s b kn0 kn1 h0 h1 v k d t f kn m = record {
     streams = kn;
     count = f.count;
     some = f.some;
-    begin = ([], sym (tags_end (reading_of b).tags));
+    begin = ([], sym (append-nil (reading_of b).tags));
     dealt = m.dealt;
     kept = f.kept;
     flow = subst (λ (ps : List Packet). Flow ps f.given v) (sym m.none) f.flow;

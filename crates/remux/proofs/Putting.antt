@@ -1,6 +1,6 @@
 -- Writes to a sink, one after another.
 use Rattle.std.proofs.Common.{◌≡◌, ℕ, ◌+◌, ◌-◌, ◌≤◌, ◌<◌, ◌⊎◌, inl, inr, List, [], ◌∷◌, ◌++◌, length, take, ap, ◌∙◌, sym, refl, subst, arith, length-append, append_assoc, Option, Some, None, Result, Ok, Err}
-use Rattle.std.proofs.lemmas.List.{take-append-le}
+use Rattle.std.proofs.lemmas.List.{take-append-le, append-nil}
 use Rattle.std.proofs.Math.Seq.{take-append-add}
 use Rattle.std.proofs.lemmas.Bool.{cases_lt}
 use Rattle.std.specs.Prelude.{zero, suc, IfSome, IsSomeAnd, IsErr}
@@ -8,7 +8,7 @@ use Rattle.rmx_edge.specs.Count.{most}
 use Rattle.rmx_edge.specs.Inputs.{OnViews}
 use Rattle.rmx_edge.specs.Sink.{SinkState, AddsBytes, Puts}
 use Rattle.rmx_edge.specs.declared.inputs.Failed.{Failed}
-use Rattle.remux.proofs.Reading.{rose_since}
+use Rattle.rmx_edge.proofs.Run.{rose_later}
 
 abbrev pub Answer : Type 0
 Answer = Result (Unit {0}) Failed
@@ -74,7 +74,7 @@ pub puts_then : (a b : List ℕ) (t : Unit {0}) (r : Answer) (old mid new : Sink
 puts_then a b t r old mid new p q = record {
   bytes = views_then a b t r old.bytes mid.bytes new.bytes p.bytes q.bytes;
   faults = omega (arith, p.faults, q.faults);
-  failed = λ e. rose_since old.faults mid.faults new.faults p.faults (q.failed e);
+  failed = λ e. rose_later old.faults mid.faults new.faults p.faults (q.failed e);
   counted = q.counted;
   sound = sound_then a b t r old mid new old.sound_for p.sound q.sound;
 }
@@ -100,13 +100,9 @@ puts_first x a b q t r old mid new e ok p s = puts_then a b t r old mid new (sub
 pub puts_last : (x a b : List ℕ) (q : Answer) (f : Failed) (old new : SinkState) → x ≡ a → q ≡ Err f → Puts {T = Unit {0}} x q old new → Puts {T = Unit {0}} (a ++ b) (Err f) old new
 puts_last x a b q f old new e err p = puts_part a b f old new (subst (λ (z : Answer). Puts a z old new) err (puts_as x a q old new e p))
 
-append_nil : (l : List ℕ) → l ≡ l ++ []
-append_nil [] = refl
-append_nil (x ∷ l) = ap (λ (m : List ℕ). x ∷ m) (append_nil l)
-
 none_added : (v : Option (List ℕ)) → OnViews v v (AddsBytes {E = Failed} [] (Ok (tt {0})))
 none_added None = refl
-none_added (Some l) = append_nil l
+none_added (Some l) = sym (append-nil l)
 
 no_error : IsErr {T = Unit {0}} {E = Failed} (Ok (tt {0})) → ⊥
 no_error e = cc

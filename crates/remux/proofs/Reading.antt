@@ -1,6 +1,7 @@
 -- The steps of a reading loop.
 use Rattle.std.proofs.Common.{◌≡◌, ℕ, ◌+◌, ◌-◌, ◌<◌, ◌≤◌, ◌⊎◌, inl, inr, Bool, true, false, List, [], ◌∷◌, ◌++◌, length, ap, ◌∙◌, sym, refl, subst, arith, length-append, append_assoc, Option, Some, None}
 use Rattle.std.proofs.lemmas.Bool.{cases_lt}
+use Rattle.std.proofs.lemmas.List.{append-nil, nil_from_length}
 use Rattle.rmx_media.specs.declared.packet.Packet.{Packet}
 use Rattle.flv_tags.specs.declared.tag.Tag.{Tag}
 use Rattle.flv_tags.specs.Tags.{reading_of}
@@ -9,14 +10,13 @@ use Rattle.flv_demux.specs.declared.deal.Kinds.{Kinds}
 use Rattle.flv_demux.specs.Probe.{probe_of, is_decided}
 use Rattle.flv_tags.specs.Tags.{Begins}
 use Rattle.interleaver.specs.Queues.{Pending}
-use Rattle.rmx_edge.specs.Count.{Rose}
 use Rattle.rmx_edge.specs.Inputs.{InputState}
 use Rattle.flv_tags.specs.declared.tag.TagFault.TheVariants as tag_fault
 use Rattle.remux.specs.declared.read.ReadEnd.{ReadEnd}
 use Rattle.remux.specs.declared.read.ReadEnd.TheVariants as ending
 use Rattle.remux.specs.Flow.{Flowing, Stopped, CutShort}
 use Rattle.remux.specs.Pumped.{AllGiven}
-use Rattle.remux.specs.Took.{Took, Piece, Dropped, SawEnd, StaysSound}
+use Rattle.remux.specs.Took.{Took, Piece, Dropped, SawEnd}
 use Rattle.remux.specs.Reading.{Late, IsShort, StopsEarly, Reaches, Breaks, Drains, Ends}
 use Rattle.remux.specs.Under.{Under}
 use Rattle.remux.proofs.Least.{least_tags}
@@ -28,10 +28,6 @@ both b f t = no (sym f ∙ t)
   where
     no : false ≡ true → ⊥
     no h = cc
-
-nil_end : (xs : List ℕ) → xs ++ [] ≡ xs
-nil_end [] = refl
-nil_end (x ∷ xs) = ap (λ (ys : List ℕ). x ∷ ys) (nil_end xs)
 
 same_cons : (x y : ℕ) (a b : List ℕ) → x ≡ y → a ≡ b → x ∷ a ≡ y ∷ b
 same_cons x y a b e f = ap (λ (z : ℕ). z ∷ a) e ∙ ap (λ (l : List ℕ). y ∷ l) f
@@ -70,12 +66,8 @@ short_of b n t l lt = λ p rest w d enough. by p rest w d enough (cases_lt (leng
 pub under_start : (s : Kinds) (b : List ℕ) (limit : ℕ) (st : InputState) (kn : Option Kinds) (h : List ℕ → List Tag → Type 0) (v : Pending) (k : List Packet → Type 0) (d : ℕ → Bool) (t : Packet → Type 0) →
     (f : Flowing s b kn h v k d t) → Late b (length f.tags) → Under s b limit limit st st kn h v k d t
 under_start s b limit st kn h v k d t f l =
-    let q = subst (λ (x : List ℕ). (g : Flowing s x kn h v k d t) × Late x (length g.tags)) (sym (nil_end b)) (f, l) in
+    let q = subst (λ (x : List ℕ). (g : Flowing s x kn h v k d t) × Late x (length g.tags)) (sym (append-nil b)) (f, l) in
     record { more = []; long = omega arith; took = took_none st; flowing = q.0; late = q.1 }
-
-no_bytes : (xs : List ℕ) → length xs ≡ 0 → xs ≡ []
-no_bytes [] e = refl
-no_bytes (x ∷ xs) e = absurd (omega arith)
 
 pub begin_fed : (b more : List ℕ) (ts : List Tag) → Begins b ts → Begins (b ++ more) ts
 begin_fed b more ts f =
@@ -105,7 +97,7 @@ refed s b c kn0 kn1 h0 h1 v k d t f e fb h = (
 )
 
 pub still : (x : List ℕ) (st0 st1 : InputState) (h0 h1 : List ℕ → List Tag → Type 0) (ts : List Tag) → Piece 0 st0 st1 h0 h1 → h0 x ts → h1 x ts
-still x st0 st1 h0 h1 ts p h = subst (λ (y : List ℕ). h1 y ts) (ap (λ (z : List ℕ). x ++ z) (no_bytes p.bytes p.long) ∙ nil_end x) (p.fed x ts h)
+still x st0 st1 h0 h1 ts p h = subst (λ (y : List ℕ). h1 y ts) (ap (λ (z : List ℕ). x ++ z) (nil_from_length p.bytes p.long) ∙ append-nil x) (p.fed x ts h)
 
 pub all_still : (s : Kinds) (x : List ℕ) (st0 st1 : InputState) (kn0 kn1 : Option Kinds) (h0 h1 : List ℕ → List Tag → Type 0) (v : Pending) (k : List Packet → Type 0) (d : ℕ → Bool) (t : Packet → Type 0) →
     AllGiven s x kn0 h0 v k d t → kn1 ≡ kn0 → Piece 0 st0 st1 h0 h1 → AllGiven s x kn1 h1 v k d t
@@ -114,7 +106,7 @@ all_still s x st0 st1 kn0 kn1 h0 h1 v k d t a e p =
     record { flowing = g.0; all = ap (λ (ts : List Tag). ts) g.1 ∙ a.all }
 
 pub took_still : (more : List ℕ) (s t u : InputState) (h0 h1 : List ℕ → List Tag → Type 0) → Took more s t → Piece 0 t u h0 h1 → Took more s u
-took_still more s t u h0 h1 m p = subst (λ (y : List ℕ). Took y s u) (ap (λ (z : List ℕ). more ++ z) (no_bytes p.bytes p.long) ∙ nil_end more) (took_two more p.bytes s t u m p.took)
+took_still more s t u h0 h1 m p = subst (λ (y : List ℕ). Took y s u) (ap (λ (z : List ℕ). more ++ z) (nil_from_length p.bytes p.long) ∙ append-nil more) (took_two more p.bytes s t u m p.took)
 
 -- all was dealt with, and nothing more came
 pub reaches : (s : Kinds) (b : List ℕ) (limit left : ℕ) (st0 st1 st2 : InputState) (kn0 kn1 : Option Kinds) (h0 h1 h2 h3 : List ℕ → List Tag → Type 0) (v0 v1 : Pending) (k0 k1 : List Packet → Type 0) (d0 d1 : ℕ → Bool) (t0 t1 : Packet → Type 0) →
@@ -175,15 +167,6 @@ breaks_taking s b limit left st0 st1 st2 kn0 kn1 h0 h1 h2 v0 v1 k0 k1 d0 d1 t0 t
 pub no_stop : (s : Kinds) (x : List ℕ) (n delta done : ℕ) (h : List ℕ → List Tag → Type 0) (k : List Packet → Type 0) (d : ℕ → Bool) → done ≡ length (reading_of x).tags → Stopped s x done n delta h k d → ⊥
 no_stop s x n delta done h k d e st =
     omega (arith, st.later, ap length st.begin.1, length-append (st.before ++ st.tag ∷ []) st.begin.0, length-append st.before (st.tag ∷ []))
-
-pub rose_since : (a b c : ℕ) → a ≤ b → Rose b c → Rose a c
-rose_since a b c h (inl lt) = inl (omega arith)
-rose_since a b c h (inr e) = inr e
-
-pub sound_then : (a b c : InputState) → StaysSound a b → StaysSound b c → StaysSound a c
-sound_then a b c f g h =
-    let x = f h in
-    let y = g x.1 in (y.0 ∙ x.0, y.1)
 
 -- memory was wanted between two pieces
 pub breaks_here : (s : Kinds) (b : List ℕ) (limit left : ℕ) (st0 st1 : InputState) (kn0 : Option Kinds) (h0 : List ℕ → List Tag → Type 0) (v : Pending) (k : List Packet → Type 0) (d : ℕ → Bool) (t : Packet → Type 0) →

@@ -3,6 +3,7 @@ use Rattle.std.proofs.Common.{◌≡◌, ℕ, ◌+◌, ◌<◌, ◌≤◌, ◌�
 use Rattle.std.proofs.lemmas.List.Elements.{All-append}
 use Rattle.std.specs.Option.{option_map}
 use Rattle.std.specs.Prelude.{zero, suc, MatchOption, ◌^◌, map, IfSome, IsSomeAnd, All, is_some, if◌then◌else◌}
+use Rattle.std.proofs.lemmas.List.{append-nil, nil_from_length}
 use Rattle.rmx_media.specs.declared.packet.Packet.{Packet}
 use Rattle.rmx_media.specs.declared.config.Config.{Config}
 use Rattle.rmx_media.specs.declared.streams.Kind.TheVariants.{Video, Audio}
@@ -10,6 +11,7 @@ use Rattle.rmx_media.specs.declared.streams.StreamInfo.{StreamInfo}
 use Rattle.rmx_media.specs.Streams.{kind_in}
 use Rattle.rmx_edge.specs.Inputs.{InputView, InputState, OnViews, OpensView, Opens}
 use Rattle.rmx_edge.specs.Shelf.{ShelfState}
+use Rattle.rmx_edge.proofs.Run.{rose_later}
 use Rattle.flv_tags.specs.declared.tag.Tag.{Tag}
 use Rattle.flv_tags.specs.declared.tag.TagFault.TheVariants as fault
 use Rattle.flv_tags.specs.Tags.{reading_of}
@@ -46,7 +48,6 @@ use Rattle.remux.specs.declared.read.ReadEnd.TheVariants as read_end
 use Rattle.remux.specs.declared.run.Outcome.{Outcome}
 use Rattle.remux.specs.declared.status.Status.{Status}
 use Rattle.remux.specs.declared.status.Status.TheVariants as status
-use Rattle.options.specs.declared.fault.WordFault.{WordFault}
 use Rattle.options.specs.declared.words.Source.{Source}
 use Rattle.options.specs.declared.words.Source.TheVariants.{Named, Generated}
 use Rattle.remux.specs.Asked.{Asked, asked_with, name_of, pictures_of, asked_of, clamped}
@@ -68,18 +69,9 @@ use Rattle.remux.proofs.Demuxing.{calm_by, told_known}
 use Rattle.remux.proofs.Endings.{states_seen, aborts_seen, any_state}
 use Rattle.remux.proofs.Probing.{not_both}
 use Rattle.remux.proofs.Pumping as pumping
-use Rattle.remux.proofs.Reading.{rose_since}
 use Rattle.remux.proofs.Starting.{start_flow}
 use Rattle.remux.proofs.Taking.{took_two}
 use Rattle.remux.proofs.Telling.{tags_told, discards_told}
-
-nil_end : (xs : List ℕ) → xs ++ [] ≡ xs
-nil_end [] = refl
-nil_end (x ∷ xs) = ap (λ (ys : List ℕ). x ∷ ys) (nil_end xs)
-
-no_length : (xs : List ℕ) → length xs ≡ 0 → xs ≡ []
-no_length [] e = refl
-no_length (x ∷ xs) e = absurd (omega arith)
 
 -- an input was opened
 opens_ok : (E : Type 0) (name : List ℕ) (t : Unit {0}) (u v : Option InputView) → OnViews u v (OpensView {E = E} name (Ok t)) → IfSome u (λ x. IsSomeAnd v (λ w. x.bytes_of name ≡ Some w.left))
@@ -114,7 +106,7 @@ early_by unfound.NotFlv name p old mid new ended known has o f = record { bytes 
 early_by unfound.BadOffset name p old mid new ended known has o f = record { bytes = f.0; taken = taken name _ f.0 old mid new o f.1.took f.1.long; verdict = f.2; enough = f.3 }
 early_by unfound.NoStreams name p old mid new ended known has o f = record { bytes = f.bytes; taken = taken name _ f.bytes old mid new o f.taking.took f.taking.long; streams_are = f.none; settled = f.settled; calm = f.calm }
 early_by unfound.InputFault name p old mid new ended known has o f =
-    (rose_since old.faults mid.faults new.faults o.faults f.rose, inr record { bytes = f.bytes; taken = taken name _ f.bytes old mid new o f.taking.took f.taking.long; fewer = f.fewer; undecided = f.undecided; calm = f.calm })
+    (rose_later old.faults mid.faults new.faults o.faults f.rose, inr record { bytes = f.bytes; taken = taken name _ f.bytes old mid new o f.taking.took f.taking.long; fewer = f.fewer; undecided = f.undecided; calm = f.calm })
 early_by unfound.NoMemory name p old mid new ended known has o f = inr (f.0, taken name _ f.0 old mid new o f.1.took f.1.long)
 
 -- a text with streams is an FLV text
@@ -137,7 +129,7 @@ pub record Stays (limit : ℕ) (b more : List ℕ) (new : InputState) : Type 0 w
   pub long : length (b ++ more) ≤ limit
 
 stays_none : (b more : List ℕ) → more ≡ [] → probe_of (reading_of (b ++ more)).tags ≡ probe_of (reading_of b).tags
-stays_none b more e = ap (λ (x : List ℕ). probe_of (reading_of x).tags) (ap (λ (l : List ℕ). b ++ l) e ∙ nil_end b)
+stays_none b more e = ap (λ (x : List ℕ). probe_of (reading_of x).tags) (ap (λ (l : List ℕ). b ++ l) e ∙ append-nil b)
 
 stays_sure : (b more : List ℕ) → is_decided (probe_of (reading_of b).tags) ≡ true → probe_of (reading_of (b ++ more)).tags ≡ probe_of (reading_of b).tags
 stays_sure b more d = let g = tags_grow b more in ap probe_of g.1 ∙ probe_stays (reading_of b).tags g.0 d
@@ -156,7 +148,7 @@ stays limit f start mid new ended known has w more le only still = by w.finds.de
       long = small;
     }
     at_end reached.Limit h e =
-        let none : more ≡ [] = no_length more (omega (arith, le, h.1)) in
+        let none : more ≡ [] = nil_from_length more (omega (arith, le, h.1)) in
         record {
           probe = stays_none w.bytes more none;
           settled = inr (inr (omega (arith, w.long, h.1, length-append w.bytes more, ap length none)));
@@ -170,7 +162,7 @@ stays limit f start mid new ended known has w more le only still = by w.finds.de
 -- of which it is settled that they are all
 pub settled_now : (limit : ℕ) (f : Found) (start mid : InputState) (ended : Bool) (known : Option Kinds) (has : List ℕ → List Tag → Type 0) → (w : FoundIn f limit start mid ended known has) → IsSettled limit w.bytes mid
 settled_now limit f start mid ended known has w =
-    subst (λ (x : List ℕ). IsSettled limit x mid) (nil_end w.bytes) (stays limit f start mid mid ended known has w [] (omega arith) (λ h. refl) (λ h. refl)).settled
+    subst (λ (x : List ℕ). IsSettled limit x mid) (append-nil w.bytes) (stays limit f start mid mid ended known has w [] (omega arith) (λ h. refl) (λ h. refl)).settled
 
 -- what came of a reading, however it ended
 pub record Out (e : ReadEnd) (limit delta : ℕ) (s : Kinds) (b : List ℕ) (left : ℕ) (old mid new : InputState) (n : ℕ) (has : List ℕ → List Tag → Type 0) (K : List Packet → Type 0) (D : ℕ → Bool) : Type 0 where
@@ -263,7 +255,7 @@ outs read_end.Cut limit s b left old mid new v has K D le long se ne h =
 outs read_end.Limit limit s b left old mid new v has K D le long se ne h =
     all_out read_end.Limit limit v.delta s b left old mid new v.streams has K D h.0 (over_of s (b ++ h.0.more) v.streams v.delta h.0.out.given h.0.out.rest D (se h.0.more h.0.long h.0.only) ne h.0.out.last h.0.out.late, omega (arith, long, h.1, length-append b h.0.more))
 outs read_end.InputFault limit s b left old mid new v has K D le long se ne h =
-    all_out read_end.InputFault limit v.delta s b left old mid new v.streams has K D h.0 (over_of s (b ++ h.0.more) v.streams v.delta h.0.out.given h.0.out.rest D (se h.0.more h.0.long h.0.only) ne h.0.out.last h.0.out.late, rose_since old.faults mid.faults new.faults le h.1)
+    all_out read_end.InputFault limit v.delta s b left old mid new v.streams has K D h.0 (over_of s (b ++ h.0.more) v.streams v.delta h.0.out.given h.0.out.rest D (se h.0.more h.0.long h.0.only) ne h.0.out.last h.0.out.late, rose_later old.faults mid.faults new.faults le h.1)
 outs read_end.Stop limit s b left old mid new v has K D le long se ne h =
     stopped_out limit s b left old mid new v has K D h (se h.more h.long h.only) ne
 outs read_end.NoMemory limit s b left old mid new v has K D le long se ne h = record {
@@ -456,15 +448,12 @@ nothing_read = refl
 nothing_decided : is_decided (probe_of (reading_of []).tags) ≡ false
 nothing_decided = ap (λ (ts : List Tag). is_decided (probe_of ts)) nothing_read ∙ ap is_decided probe_of-none
 
-both_ways : (b : Bool) → b ≡ true → b ≡ false → ⊥
-both_ways b t f = cc
-
 nothing_sure : (p : Probe) (ended : Bool) → ended ≡ false → IsSure p [] ended → ⊥
 nothing_sure p ended fresh s = by s.why
   where
     by : (is_decided p ≡ true) ⊎ ((ended ≡ true) × ((reading_of []).tags ≡ s.looked) × IsReadable []) → ⊥
-    by (inl e) = both_ways (is_decided p) e (ap is_decided (sure_all p [] ended s) ∙ nothing_decided)
-    by (inr e) = both_ways ended e.0 fresh
+    by (inl e) = not_both (is_decided p) e (ap is_decided (sure_all p [] ended s) ∙ nothing_decided)
+    by (inr e) = not_both ended e.0 fresh
 
 pub untold : (d : DemuxState) → d.core.reader.ended ≡ false → HasDealt [] [] d → told d ≡ None
 untold d fresh h = by h.shown
@@ -499,24 +488,6 @@ made E A state text asked start after now shelves o e sound c = record {
   faultless = sound (ap (λ (i : InputState). i.sound_at asked.source) e) ∙ ap (λ (i : InputState). i.faults) e;
   comes = subst (λ (i : InputState). ComesToBy E A state asked i after shelves o) e c;
 }
-
--- the report leaves all but the status
-reported_nothing : {S : Type 0} (s : Status) (shelves : List S) (o p : Outcome S) → (s ≡ status.Done → ⊥) → IsNothing s shelves o → with_status o.status p ≡ o → IsReported o.status p.status → IsNothing s shelves p
-reported_nothing s shelves o p calm n same r = record {
-  status_is = kept r;
-  tags = ap (λ (x : Outcome _). x.tags) same ∙ n.tags;
-  upto = ap (λ (x : Outcome _). x.upto) same ∙ n.upto;
-  ends = ap (λ (x : Outcome _). x.ends.items) same ∙ n.ends;
-  spare = ap (λ (x : Outcome _). x.spare.items) same ∙ n.spare;
-  discards = ap (λ (x : Outcome _). x.discards) same ∙ n.discards;
-}
-  where
-    kept : IsReported o.status p.status → p.status ≡ s
-    kept (inl k) = k ∙ n.status_is
-    kept (inr k) = absurd (calm (sym n.status_is ∙ k.0))
-
-words_done : (f : WordFault) → status.Words f ≡ status.Done → ⊥
-words_done f e = cc
 
 -- no status before the report is that the report failed
 read_calm : (e : ReadEnd) → status_of_read e ≡ status.ReportFault → ⊥

@@ -1,5 +1,5 @@
 -- What is promised of each output of a run, some of which had threads of their own, whatever happened and whatever the schedule.
-use Rattle.std.specs.Prelude.{◌≡◌, ◌⊎◌, true, false, List, [], ◌∷◌, Option, Some, None}
+use Rattle.std.specs.Prelude.{◌≡◌, true, List, [], ◌∷◌, Option, Some, None}
 use Rattle.fifo_core.specs.declared.types.FifoOptions.{FifoOptions}
 use Rattle.rmx_edge.specs.Count.{Rose}
 use Rattle.rmx_media.specs.declared.packet.Packet.{Packet}
@@ -10,15 +10,12 @@ use Rattle.slave.specs.Origin.{Origin}
 use Rattle.slave.specs.End.{EndView}
 use Rattle.slave.specs.Headline.{HoldsAll, WantsForList}
 use Rattle.tee.specs.Seat.{Seat, chosen}
+use Rattle.tee.specs.Schedule.{IsBlocking}
 
 -- each packet has one recorded cause; refusals and flushes are among them where the output had a lane
 abbrev pub AccountsBy : Option LaneNote → Origin → FifoOptions → List Packet → EndView → Type 0
 AccountsBy None g o L e = Accounts g o L e
 AccountsBy (Some note) g o L e = AccountsLane g o L note e
-
--- packets wait for the output rather than be refused: it has no thread, or its lane waits, or the reader wrote it in its thread's place
-abbrev pub IsBlocking : Seat → EndView → Type 0
-IsBlocking seat e = (seat.slave.fifo.use_fifo ≡ false) ⊎ ((seat.slave.fifo.dropping ≡ false) ⊎ (e.inline ≡ true))
 
 -- A blocking output whose shelf had no fault and no want holds exactly its format's files over all packets that it was given, but
 -- that one that asks for a list of its segments may end for want of memory. Every other one holds, session by session and in

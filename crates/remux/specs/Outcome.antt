@@ -243,9 +243,6 @@ MakesAndComesTo = MakesAndComesToBy EndsAll AreKept
 abbrev pub ComesFrom : {S : Type 0} → (S → ShelfState) → Source → Asked → InputState → InputState → List S → Outcome S → Type 0
 ComesFrom = ComesFromBy EndsAll AreKept
 
-abbrev pub RunsPlan : {S : Type 0} → (S → ShelfState) → Source → Asked → InputState → InputState → List S → Outcome S → Type 0
-RunsPlan = RunsPlanBy EndsAll AreKept
-
 abbrev pub RunsAs : {S : Type 0} → (S → ShelfState) → Placed Planned → InputState → InputState → List S → Outcome S → Type 0
 RunsAs = RunsAsBy EndsAll AreKept
 

@@ -1,5 +1,5 @@
 // The input that a run makes for itself, tag by tag while it is read.
-ghost use Rattle.std.specs.Prelude.{◌≡◌, ◌<◌, ◌≤◌, ◌+◌, ◌*◌, ◌^◌, ◌↔◌, ◌++◌, List, ℕ, [], take, drop, length, replicate, pos, if◌then◌else◌};
+ghost use Rattle.std.specs.Prelude.{◌≡◌, ◌<◌, ◌≤◌, ◌+◌, ◌*◌, ◌^◌, ◌↔◌, ◌++◌, [], take, drop, length, replicate, pos, if◌then◌else◌};
 ghost use Rattle.arrayvec.specs.ArrayVec.{array_vec_len};
 ghost use Rattle.rmx_media.specs.Bits.{bytes_of};
 ghost use Rattle.flv_tags.specs.Written.{tag_head_bytes};

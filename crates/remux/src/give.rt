@@ -1,8 +1,7 @@
 // Giving the outputs what may go.
 ghost use Rattle.std.specs.Prelude.{◌≡◌, ℕ, ◌<◌, ◌≤ℤ◌, ◌+◌, ◌^◌, length, ◌++◌, ◌∷◌, [], List, true, false, IfOk, OnErr};
 ghost use Rattle.remux.specs.Lineup.{Lineup};
-ghost use Rattle.interleaver.specs.Interleave.{put_in};
-ghost use Rattle.interleaver.specs.Queues.{goes, last_of, Pushed};
+ghost use Rattle.interleaver.specs.Queues.{goes, last_of};
 ghost use Rattle.remux.specs.Gave.{Flushed, FlushedSome, GaveSome};
 ghost use Rattle.remux.specs.Fit.{Each};
 ghost use Rattle.remux.specs.Fed.{Answers};

@@ -1,5 +1,5 @@
 // The text that a run makes for itself.
-ghost use Rattle.std.specs.Prelude.{◌≡◌, ◌<◌};
+ghost use Rattle.std.specs.Prelude.{◌<◌};
 
 use super::worked::{
     AUDIO, Ran, SEQUENCE_END, SETS, SOUND, Tag, VIDEO, add_tag, file, input, run_with, shelf_of,

@@ -2,7 +2,6 @@
 #![tactic(auto)]
 
 ghost use Rattle.std.specs.Prelude.{◌≡◌, false, length, All, IfOk};
-ghost use Rattle.rmx_edge.specs.Shelf.{ShelfState};
 
 mod carry;
 #[cfg(test)]
@@ -133,21 +132,29 @@ fn outside(rt: &Host) -> io::Result<(RealShelves, RealInputs, RealSink, Arc<Open
     Ok((shelves, inputs, out, Arc::new(alloc, OpenGate)?))
 }
 
-fn main(rt: HostRuntime) -> io::Result<ExitCode> {
-    let alloc = rt.alloc();
-    let words: Vec<String> = match env::args(&rt) {
-        Ok(args) => match args.skip(1).collect(alloc) {
-            Ok(words) => words,
-            Err(_) => return Ok(want_memory(&rt)),
+// The words of the command line, or how the program ends where they can't be had.
+fn words_of(rt: &Host) -> io::Result<Result<Vec<String>, ExitCode>> {
+    match env::args(rt) {
+        Ok(args) => match args.skip(1).collect(rt.alloc()) {
+            Ok(words) => Ok(Ok(words)),
+            Err(_) => Ok(Err(want_memory(rt))),
         },
         Err(error) if error.kind() == io::ErrorKind::InvalidData => {
             // The status stays, also where neither text is taken.
             let _ = rt.print(NOT_UTF8);
             let _ = rt.eprintln("remux: the words must be UTF-8 text");
-            return Ok(ExitCode::from(1));
+            Ok(Err(ExitCode::from(1)))
         }
-        Err(error) if error.kind() == io::ErrorKind::OutOfMemory => return Ok(want_memory(&rt)),
-        Err(error) => return Err(error),
+        Err(error) if error.kind() == io::ErrorKind::OutOfMemory => Ok(Err(want_memory(rt))),
+        Err(error) => Err(error),
+    }
+}
+
+fn main(rt: HostRuntime) -> io::Result<ExitCode> {
+    let alloc = rt.alloc();
+    let words = match words_of(&rt)? {
+        Ok(words) => words,
+        Err(status) => return Ok(status),
     };
     match words.as_slice() {
         [word] if word.as_str() == "--help" || word.as_str() == "-h" => {

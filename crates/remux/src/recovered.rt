@@ -1,6 +1,5 @@
 // Worked examples over memory: outputs that go on after a fault, in a further file.
 ghost use Rattle.std.specs.Prelude.{◌≡◌, false, IfOk};
-ghost use Rattle.rmx_edge.specs.Shelf.{ShelfState};
 
 use super::worked::{
     A21, A22, A23, AUDIO, KEY, PICTURE, Ran, SETS, SOUND, Tag, VIDEO, file, run_tee, text_of,

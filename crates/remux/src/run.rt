@@ -82,7 +82,7 @@ pub fn run_direct<I: Inputs, S: Shelf + Drop, O: Sink>(
     }
 }
 
-// How a run ends whose words have a fault.
+/// How a run ends whose words have a fault.
 pub fn word_status(fault: WordFault) -> Status
     ensures { result ≡ word_status fault }
 {
@@ -92,7 +92,7 @@ pub fn word_status(fault: WordFault) -> Status
     }
 }
 
-// Writes the report of an outcome.
+/// Writes the report of an outcome.
 pub fn reported<S: Drop, O: Sink>(mut outcome: Outcome<S>, out: &mut O) -> Outcome<S>
     requires { (outcome.status ≡ Status.ReportFault → ⊥) }
     ensures same { with_status outcome.status result ≡ outcome }
@@ -103,7 +103,7 @@ pub fn reported<S: Drop, O: Sink>(mut outcome: Outcome<S>, out: &mut O) -> Outco
     outcome
 }
 
-// Ends a run before an output was made.
+/// Ends a run before an output was made.
 pub fn nothing<S>(alloc: Global, status: Status, shelves: Vec<S>) -> Outcome<S>
     ensures { IsNothing status shelves.items result }
 {
@@ -184,7 +184,7 @@ fn most_bytes(plan: &Plan) -> u64
     plan.max_bytes.min(MOST_BYTES).max(FEWEST_BYTES)
 }
 
-// An input that was opened, and whose streams were found.
+/// An input that was opened, and whose streams were found.
 #[derive(Drop)]
 pub struct Start {
     pub buf: Vec<u8>,
@@ -192,7 +192,7 @@ pub struct Start {
     pub found: Found,
 }
 
-// Opens the input of that name and finds its streams, or tells how the run ends.
+/// Opens the input of that name and finds its streams, or tells how the run ends.
 pub fn start_input<I: Inputs>(
     alloc: Global,
     plan: &Plan,
@@ -263,7 +263,7 @@ fn refused(unfound: Unfound) -> Status
     }
 }
 
-// How a run ends whose outputs could not be made.
+/// How a run ends whose outputs could not be made.
 pub fn unmade(fault: TeeFault) -> Status
     ensures { result ≡ unmade_by fault }
 {
@@ -347,7 +347,7 @@ fn write_made<I: Inputs, S: Shelf + Drop>(
     outcome_of(plan, demux, end, given, ends, spare)
 }
 
-// What a run comes to whose reading and whose outputs ended so, and which handed over so many packets.
+/// What a run comes to whose reading and whose outputs ended so, and which handed over so many packets.
 pub fn outcome_of<S>(
     plan: &Plan,
     demux: &Demuxer,

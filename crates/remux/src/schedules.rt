@@ -1,6 +1,5 @@
 // Runs whose outputs have threads of their own, over memory. What their gates hold up makes each run end in one way.
 ghost use Rattle.std.specs.Prelude.{◌≡◌, false};
-ghost use Rattle.rmx_edge.specs.Shelf.{ShelfState};
 
 use super::gates::{Coming, Hold, HoldingGate};
 use super::worked::{

@@ -1,6 +1,5 @@
 // Runs over memory.
 ghost use Rattle.std.specs.Prelude.{◌≡◌, ◌<◌, false, length, All, IfOk};
-ghost use Rattle.rmx_edge.specs.Shelf.{ShelfState};
 
 use crate::SHELVES;
 use crate::run::run_direct;

@@ -1,5 +1,5 @@
 // The top call where outputs may have threads of their own.
-ghost use Rattle.std.specs.Prelude.{◌≡◌, ◌<◌, ◌≤◌, ℕ, List, [], false, true, length, map, string_bytes, All, None};
+ghost use Rattle.std.specs.Prelude.{◌≡◌, ◌<◌, ◌≤◌, ℕ, List, false, true, length, map, string_bytes, All, None};
 ghost use Rattle.rmx_edge.specs.Inputs.{InputState};
 ghost use Rattle.flv_tags.specs.Tags.{reading_of};
 ghost use Rattle.flv_demux.specs.Probe.{script, streams};
@@ -10,12 +10,11 @@ ghost use Rattle.tee.specs.RunEnds.{EndsAllRun};
 ghost use Rattle.tee.specs.RunKeeps.{KeepsRun, dead_in, inlined, infos_of, spare_of, theres_of};
 ghost use Rattle.tee.specs.Seat.{AreSeats, first_without, IsInput, Seat};
 ghost use Rattle.remux.specs.Complete.{Completes};
-ghost use Rattle.remux.specs.Asked.{asked_of, asked_with, clamped, pictures_of};
-ghost use Rattle.remux.specs.Generated.{generated};
+ghost use Rattle.remux.specs.Asked.{asked_of, asked_with, clamped};
 ghost use Rattle.remux.specs.Finding.{FoundIn};
 ghost use Rattle.remux.specs.KeptRun.{AreKeptRun};
 ghost use Rattle.remux.specs.MadeRun.{IsMadeRun};
-ghost use Rattle.remux.specs.Outcome.{ComesFromBy, ComesToBy, IsWrittenBy, MakesAndComesToBy, Opened, ReadsAsked, ReadsSound, RunsAsBy};
+ghost use Rattle.remux.specs.Outcome.{ComesFromBy, ComesToBy, IsWrittenBy, Opened, ReadsAsked, ReadsSound, RunsAsBy};
 ghost use Rattle.remux.specs.Report.{Reports};
 ghost use Rattle.remux.specs.Threads.{any_threads, inlines, InlinesWithin};
 ghost use Rattle.remux.specs.Told.{told};

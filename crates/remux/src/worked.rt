@@ -1,6 +1,5 @@
 // Worked examples over memory: what the words come to on a text.
 ghost use Rattle.std.specs.Prelude.{◌≡◌, ◌<◌, false, length, All, IfOk};
-ghost use Rattle.rmx_edge.specs.Shelf.{ShelfState};
 
 use crate::SHELVES;
 use crate::run::{Outcome, run_direct};

@@ -1,5 +1,6 @@
 use Rattle.std.proofs.Common.{arith, ◌∙◌, refl, ap, ◌++◌, length, length-append}
-use Rattle.remux.proofs.Reading.{under_start, refed, begin_fed, all_still, reaches, under_next, stops, breaks, breaks_taking, breaks_here, drained, rose_since, both}
+use Rattle.rmx_edge.proofs.Run.{rose_later}
+use Rattle.remux.proofs.Reading.{under_start, refed, begin_fed, all_still, reaches, under_next, stops, breaks, breaks_taking, breaks_here, drained, both}
 use Rattle.remux.proofs.read.read_on.Goals as goal
 
 pub loop-init : goal.loop-init
@@ -69,7 +70,7 @@ returns-in-Err-Failed-clause-ends g c = λ s b start f l.
     let t = rw c.in-Err-Failed.field-0-is at c.in-Err-Failed.ensures.takes in
     let a = all_still s (b ++ u.more) _ _ _ _ _ _ _ _ _ _ r.1 (c.in-Err-Failed.ensures.known _ _ r.1.flowing.dealt) t.0 in
     let z = reaches s b _ _ _ _ _ _ _ _ _ _ _ c.loop.line _ _ _ _ _ _ _ c.requires.readable u t.0 a in
-    (z.0, rose_since _ _ _ c.loop.invariant.faults t.1)
+    (z.0, rose_later _ _ _ c.loop.invariant.faults t.1)
 
 pub returns-in-Err-NoMemory-take_piece-clause-ends : goal.returns-in-Err-NoMemory-take_piece-clause-ends
 returns-in-Err-NoMemory-take_piece-clause-ends g c = λ s b start f l.

@@ -1,4 +1,5 @@
 use Rattle.std.proofs.Common.{◌≡◌, ℕ, List, [], length, ap, ◌∙◌, sym, refl, arith}
+use Rattle.std.proofs.lemmas.List.{length-map}
 use Rattle.rmx_media.specs.declared.packet.Packet.{Packet}
 use Rattle.interleaver.specs.Queues.{Pending}
 use Rattle.options.specs.Slave.{view}
@@ -6,7 +7,7 @@ use Rattle.tee.specs.Ends.{EndsAll}
 use Rattle.tee.specs.Keeps.{Keeps, infos_of, dead_in, spare_of}
 use Rattle.remux.specs.Kept.{AreKept}
 use Rattle.remux.specs.Asked.{clamped}
-use Rattle.remux.proofs.Endings.{all_kept, as_many_ends, clamped_small, count_mapped}
+use Rattle.remux.proofs.Endings.{all_kept, as_many_ends, clamped_small}
 use Rattle.remux.proofs.Running.{ready_by, kept_of, wrote_ends}
 use Rattle.remux.proofs.run.write_made.Goals as goal
 
@@ -42,7 +43,7 @@ outcome_of-requires-clause-few g c =
     let k = kept_of c.carry-end.result _ _ _ _ _ _ _ _ _ (c.carry-end.ensures.carries m.2.streams m.2.bytes (record { seats = m.1; threads = [] }) r.0) in
     let e = c.finish-ends.ensures.ends m.1 k.0 k.1.0 in
     let n = as_many_ends g.S.Shelf.state m.1 k.0 (dead_in c.carry-end.new.outputs.tee) c.finish-ends.result.ends.items c.args.plan.now.slaves.items e m.3.aborts_are in
-    omega (arith, c.requires.valid.few, n, count_mapped view c.args.plan.now.slaves.items)
+    omega (arith, c.requires.valid.few, n, length-map c.args.plan.now.slaves.items view)
 
 pub returns-clause-written : goal.returns-clause-written
 returns-clause-written g c = λ name old start shelves seats op le w m seated first.

@@ -1,4 +1,5 @@
 use Rattle.std.proofs.Common.{◌≡◌, ℕ, List, [], length, ap, ◌∙◌, sym, refl, arith, Bool}
+use Rattle.std.proofs.lemmas.List.{length-map}
 use Rattle.rmx_media.specs.declared.packet.Packet.{Packet}
 use Rattle.interleaver.specs.Queues.{Pending}
 use Rattle.options.specs.Slave.{view}
@@ -9,7 +10,7 @@ use Rattle.remux.specs.Asked.{clamped}
 use Rattle.remux.specs.KeptRun.{AreKeptRun}
 use Rattle.remux.specs.Lineup.{Lineup}
 use Rattle.remux.specs.Threads.{inlines}
-use Rattle.remux.proofs.Endings.{clamped_small, count_mapped}
+use Rattle.remux.proofs.Endings.{clamped_small}
 use Rattle.remux.proofs.Inlining.{inlines_seen}
 use Rattle.remux.proofs.KeepingRun.{all_kept_run, as_many_ends_run}
 use Rattle.remux.proofs.Running.{ready_by, kept_of, wrote_ends}
@@ -51,7 +52,7 @@ outcome_of-requires-clause-few g c =
     let k = kept_of c.carry-end.result _ _ _ _ _ _ _ _ _ (c.carry-end.ensures.carries m.2.streams m.2.bytes lineup r.0) in
     let e = c.finish-ends.ensures.ends m.1 k.0 k.1.0 in
     let n = as_many_ends_run g.S.Shelf.state m.1 k.0 (dead_in c.carry-end.new.outputs.run) c.finish-ends.result.ends.items c.args.plan.now.slaves.items e m.3.aborts_are in
-    omega (arith, c.requires.valid.few, n, count_mapped view c.args.plan.now.slaves.items)
+    omega (arith, c.requires.valid.few, n, length-map c.args.plan.now.slaves.items view)
 
 pub returns-clause-inline : goal.returns-clause-inline
 returns-clause-inline g c = λ start seats w m.
