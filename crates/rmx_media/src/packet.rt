@@ -25,18 +25,18 @@ pub enum Format {
     Segment,
 }
 
-/// One coded frame. Times are milliseconds.
+/// One coded frame. Times are milliseconds. The short fields stand together, so that it has 128 bytes: moves of more are calls.
 #[derive(Drop)]
 pub struct Packet {
     /// The number of its stream.
     pub stream: u32,
+    /// Whether decoding can begin here.
+    pub key: bool,
+    pub form: Form,
     /// When it is decoded.
     pub dts: i64,
     /// When it is shown.
     pub pts: i64,
-    /// Whether decoding can begin here.
-    pub key: bool,
-    pub form: Form,
     pub payload: Bytes,
     /// The configuration that is in force for it.
     pub config: Config,
@@ -56,10 +56,10 @@ impl Packet {
         match self.payload.clone() {
             Ok(payload) => Ok(Packet {
                 stream: self.stream,
-                dts: self.dts,
-                pts: self.pts,
                 key: self.key,
                 form: self.form,
+                dts: self.dts,
+                pts: self.pts,
                 payload,
                 config,
                 version: self.version,

@@ -74,10 +74,15 @@ fn configurations(rt: HostRuntime) -> Result<(), Fail> {
     ] {
         assert_eq!(rt; read_aac_config(bytes(alloc, list)?).err(), Some(expected));
     }
-    assert_eq!(rt;
-        format!(in alloc; "{}", ConfigFault::ObjectType)?.as_str(),
-        "ObjectType"
-    );
+    for (fault, text) in [
+        (ConfigFault::Short, "Short"),
+        (ConfigFault::Version, "Version"),
+        (ConfigFault::ObjectType, "ObjectType"),
+        (ConfigFault::Frequency, "Frequency"),
+        (ConfigFault::Channels, "Channels"),
+    ] {
+        assert_eq!(rt; format!(in alloc; "{fault}")?.as_str(), text);
+    }
     Ok(())
 }
 
@@ -106,10 +111,10 @@ fn copies(rt: HostRuntime) -> Result<(), Fail> {
     let alloc = rt.alloc();
     let packet = Packet {
         stream: 1,
-        dts: -40,
-        pts: 0,
         key: true,
         form: Form::Native,
+        dts: -40,
+        pts: 0,
         payload: bytes(alloc, &[0x21])?,
         config: Config::Aac(aac(alloc)?),
         version: 2,

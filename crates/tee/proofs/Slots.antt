@@ -44,7 +44,7 @@ pub zip_all : {A B : Type 0} (R : A → B → Type 0) (xs : List A) (ys : List B
 zip_all {A} R xs ys k le h = subst (λ (zs : List A). AllZip R zs ys) (take_all k xs le) h
 
 -- the place of one of a few
-pub offset_fits : (n : ℕ) → n < 16 → Fits w64 (n * 144)
+pub offset_fits : (n : ℕ) → n < 16 → Fits w64 (n * 136)
 offset_fits n lt = omega arith
 
 -- a list that was written whole
