@@ -15,7 +15,7 @@ use Rattle.remux.specs.declared.probe.Reached.TheVariants as reached
 use Rattle.remux.specs.declared.probe.Unfound.{Unfound}
 use Rattle.remux.specs.declared.probe.Unfound.TheVariants as unfound
 use Rattle.remux.specs.declared.probe.Looked.TheVariants as looked
-use Rattle.remux.specs.Demuxed.{Finds, Waits}
+use Rattle.remux.specs.Demuxed.{Finds, Waits, is_refused}
 use Rattle.remux.specs.Finding.{Looks, LateProbe, ByReached, Taking, Seeks, FoundIn, Broke, Finding, SeeksOn}
 use Rattle.remux.specs.Took.{Took, Piece, Dropped, SawEnd}
 use Rattle.remux.proofs.Taking.{took_two, took_none}
@@ -51,15 +51,17 @@ late_start = record {
   whole = refl;
   small = omega arith;
   undecided = λ p rest w. subst (λ (x : List ℕ). is_decided (probe_of (reading_of x).tags) ≡ false) (sym (nothing_left p rest w)) (ap is_decided probe_of-none);
+  calm = λ long. absurd (omega (arith, long));
 }
 
-pub late_piece : (b piece : List ℕ) → length piece ≤ 65536 → is_decided (probe_of (reading_of b).tags) ≡ false → LateProbe (b ++ piece)
-late_piece b piece small e = record {
+pub late_piece : (b piece : List ℕ) → length piece ≤ 65536 → is_decided (probe_of (reading_of b).tags) ≡ false → (9 ≤ length b → is_refused (reading_of b).verdict ≡ false) → LateProbe (b ++ piece)
+late_piece b piece small e calm = record {
   front = b;
   piece = piece;
   whole = refl;
   small = small;
   undecided = λ p rest w. undecided_before p rest (subst (λ (x : List ℕ). is_decided (probe_of (reading_of x).tags) ≡ false) w e);
+  calm = calm;
 }
 
 taking_of : (limit left : ℕ) (r : Reached) (old new : InputState) (ended : Bool) (known : Option Kinds) (has : List ℕ → List Tag → Type 0) → (k : Seeks limit left r old new ended known has) → Taking limit old new k.bytes
@@ -82,14 +84,15 @@ nine r b ended limit left now h l n (inr e) = by (seen_end r b ended limit left 
 -- a look that finds no streams
 pub unfound_by : (u : Unfound) (limit left : ℕ) (r : Reached) (old new : InputState) (e0 e1 : Bool) (kn0 kn1 : Option Kinds) (h0 h1 : List ℕ → List Tag → Type 0) → 9 ≤ limit →
     (k : Seeks limit left r old new e0 kn0 h0) → Looks (Err u) k.bytes e0 kn1 (h1 k.bytes) → Finding (Err u) limit old new e1 kn1 h1
-unfound_by unfound.NotFlv limit left r old new e0 e1 kn0 kn1 h0 h1 n k l = (k.bytes, taking_of limit left r old new e0 kn0 h0 k, l.1, nine r k.bytes e0 limit left new k.how k.long n l.0)
-unfound_by unfound.BadOffset limit left r old new e0 e1 kn0 kn1 h0 h1 n k l = (k.bytes, taking_of limit left r old new e0 kn0 h0 k, l.1, nine r k.bytes e0 limit left new k.how k.long n l.0)
+unfound_by unfound.NotFlv limit left r old new e0 e1 kn0 kn1 h0 h1 n k l = (k.bytes, taking_of limit left r old new e0 kn0 h0 k, l.1, nine r k.bytes e0 limit left new k.how k.long n l.0, k.late)
+unfound_by unfound.BadOffset limit left r old new e0 e1 kn0 kn1 h0 h1 n k l = (k.bytes, taking_of limit left r old new e0 kn0 h0 k, l.1, nine r k.bytes e0 limit left new k.how k.long n l.0, k.late)
 unfound_by unfound.NoStreams limit left r old new e0 e1 kn0 kn1 h0 h1 n k l = record {
   bytes = k.bytes;
   taking = taking_of limit left r old new e0 kn0 h0 k;
   none = l.none;
   settled = by l.settled;
   calm = l.calm;
+  late = k.late;
 }
   where
     by : (is_decided (probe_of (reading_of k.bytes).tags) ≡ true) ⊎ (e0 ≡ true) → (is_decided (probe_of (reading_of k.bytes).tags) ≡ true) ⊎ (SawEnd new ⊎ (length k.bytes ≡ limit))
@@ -111,7 +114,7 @@ seek_bytes n limit left b st0 st1 st2 e0 e2 kn1 kn2 h1 h2 long took q same p le 
   took = took_two b p.bytes st0 st1 st2 took p.took;
   unknown = same ∙ q.unknown;
   dealt = p.fed b [] q.dealt;
-  late = late_piece b p.bytes (omega (arith, p.long)) q.undecided;
+  late = late_piece b p.bytes (omega (arith, p.long)) q.undecided q.calm;
   how = (e, ra);
 }
 

@@ -102,9 +102,9 @@ taken name limit x old mid new o t le = record { told = taken_views name x old.v
 
 -- a run whose input has no streams
 pub early_by : (u : Unfound) (name : List ℕ) (p : Planned) (old mid new : InputState) (ended : Bool) (known : Option Kinds) (has : List ℕ → List Tag → Type 0) → Opened name old mid → Finding (Err u) (clamped p.max_bytes) mid new ended known has → EndsEarly (refused_by u) (asked_with name p) old new
-early_by unfound.NotFlv name p old mid new ended known has o f = record { bytes = f.0; taken = taken name _ f.0 old mid new o f.1.took f.1.long; verdict = f.2; enough = f.3 }
-early_by unfound.BadOffset name p old mid new ended known has o f = record { bytes = f.0; taken = taken name _ f.0 old mid new o f.1.took f.1.long; verdict = f.2; enough = f.3 }
-early_by unfound.NoStreams name p old mid new ended known has o f = record { bytes = f.bytes; taken = taken name _ f.bytes old mid new o f.taking.took f.taking.long; streams_are = f.none; settled = f.settled; calm = f.calm }
+early_by unfound.NotFlv name p old mid new ended known has o f = record { bytes = f.0; taken = taken name _ f.0 old mid new o f.1.took f.1.long; verdict = f.2; enough = f.3; late = f.4 }
+early_by unfound.BadOffset name p old mid new ended known has o f = record { bytes = f.0; taken = taken name _ f.0 old mid new o f.1.took f.1.long; verdict = f.2; enough = f.3; late = f.4 }
+early_by unfound.NoStreams name p old mid new ended known has o f = record { bytes = f.bytes; taken = taken name _ f.bytes old mid new o f.taking.took f.taking.long; streams_are = f.none; settled = f.settled; calm = f.calm; late = f.late }
 early_by unfound.InputFault name p old mid new ended known has o f =
     (rose_later old.faults mid.faults new.faults o.faults f.rose, inr record { bytes = f.bytes; taken = taken name _ f.bytes old mid new o f.taking.took f.taking.long; fewer = f.fewer; undecided = f.undecided; calm = f.calm })
 early_by unfound.NoMemory name p old mid new ended known has o f = inr (f.0, taken name _ f.0 old mid new o f.1.took f.1.long)
@@ -565,6 +565,7 @@ unmade_early (tee_fault.NoneSelected k) limit f name p old start mid d infos sam
     streams_are = sym (known ∙ infos_found limit f start mid d w);
     settled = subst (λ (l : ℕ). IsSettled l w.bytes mid) same (settled_now limit f start mid d.core.reader.ended (told d) (λ (b : List ℕ) (done : List Tag). HasDealt b done d) w);
     calm = w.finds.calm;
+    late = w.late;
   };
 }
   where

@@ -34,13 +34,14 @@ Looks (Err unfound.NoStreams) b ended known has = FindsNone b ended
 Looks (Err unfound.InputFault) b ended known has = ⊥
 Looks (Err unfound.NoMemory) b ended known has = Unit {0}
 
--- b without its last piece doesn't decide the probe
+-- b without its last piece settles nothing: it doesn't decide the probe, and isn't refused
 pub record LateProbe (b : List ℕ) : Type 0 where
   pub front : List ℕ
   pub piece : List ℕ
   pub whole : b ≡ front ++ piece
   pub small : length piece ≤ 65536
   pub undecided : (p rest : List ℕ) → front ≡ p ++ rest → is_decided (probe_of (reading_of p).tags) ≡ false
+  pub calm : 9 ≤ length front → is_refused (reading_of front).verdict ≡ false
 
 -- how far the reading came
 abbrev pub ByReached : Reached → List ℕ → Bool → ℕ → InputState → Type 0
@@ -90,10 +91,11 @@ pub record NoneIn (limit : ℕ) (old new : InputState) : Type 0 where
   pub none : streams (reading_of bytes).tags ≡ []
   pub settled : (is_decided (probe_of (reading_of bytes).tags) ≡ true) ⊎ (SawEnd new ⊎ (length bytes ≡ limit))
   pub calm : is_refused (reading_of bytes).verdict ≡ false
+  pub late : LateProbe bytes
 
 -- the text is no FLV text
 abbrev pub RefusedIn : (f : Rattle.flv_tags.specs.declared.tag.TagFault.TagFault) → ℕ → InputState → InputState → Type 0
-RefusedIn f limit old new = (bytes : List ℕ) × Taking limit old new bytes × ((reading_of bytes).verdict ≡ Some f) × ((9 ≤ length bytes) ⊎ SawEnd new)
+RefusedIn f limit old new = (bytes : List ℕ) × Taking limit old new bytes × ((reading_of bytes).verdict ≡ Some f) × ((9 ≤ length bytes) ⊎ SawEnd new) × LateProbe bytes
 
 -- what the search for streams comes to
 abbrev pub Finding : Result Found Unfound → ℕ → InputState → InputState → Bool → Option Kinds → (List ℕ → List Tag → Type 0) → Type 0

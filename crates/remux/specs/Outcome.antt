@@ -37,6 +37,7 @@ use Rattle.remux.specs.Generated.{generated, telling}
 use Rattle.remux.specs.Came.{CameTo, order_of}
 use Rattle.remux.specs.Demuxed.{is_refused}
 use Rattle.remux.specs.Ending.{status_by}
+use Rattle.remux.specs.Finding.{LateProbe}
 use Rattle.remux.specs.Kept.{AreKept}
 use Rattle.remux.specs.States.{states, aborts_of, some_want}
 use Rattle.remux.specs.Took.{SawEnd}
@@ -63,20 +64,22 @@ pub record Opened (name : List ℕ) (old new : InputState) : Type 0 where
 abbrev pub IsSettled : ℕ → List ℕ → InputState → Type 0
 IsSettled max bytes new = (is_decided (probe_of (reading_of bytes).tags) ≡ true) ⊎ (SawEnd new ⊎ (length bytes ≡ max))
 
--- a text that is no FLV text, of which nine bytes came or all
+-- a text that is no FLV text, of which nine bytes came or all, and no further piece
 pub record IsRefused (f : TagFault) (asked : Asked) (old new : InputState) : Type 0 where
   pub bytes : List ℕ
   pub taken : Taken asked.source asked.max_bytes bytes old new
   pub verdict : (reading_of bytes).verdict ≡ Some f
   pub enough : (9 ≤ length bytes) ⊎ SawEnd new
+  pub late : LateProbe bytes
 
--- a text of which it is settled that there are these streams
+-- a text of which it is settled that there are these streams, and of which no further piece came
 pub record Settled (asked : Asked) (infos : List StreamInfo) (old new : InputState) : Type 0 where
   pub bytes : List ℕ
   pub taken : Taken asked.source asked.max_bytes bytes old new
   pub streams_are : streams (reading_of bytes).tags ≡ infos
   pub settled : IsSettled asked.max_bytes bytes new
   pub calm : is_refused (reading_of bytes).verdict ≡ false
+  pub late : LateProbe bytes
 
 -- a text that broke off before that, where more might have been taken
 pub record BrokeOff (asked : Asked) (old new : InputState) : Type 0 where

@@ -21,7 +21,7 @@ pub trait Outputs {
     /// They take this packet.
     ghost takes: { Self → Packet → Type 0 };
 
-    /// Gives them a packet. Stop says that an output that aborts, or every one, is dead.
+    /// Gives them a packet. Stop says that an output that aborts, or every one, is known to be dead.
     fn feed(&mut self, p: &Piece) -> Result<Fed, NoMemory>
         requires ready { (start : Lineup) × (given : List Packet) × keeps self.old start given × (length given < 2 ^ 61) }
         requires taken { takes self.old p.now }

@@ -190,4 +190,4 @@ stretch_of g o T h got numbers i v k s =
     )
 
 pub workers_pass_on : WorkersPassOn
-workers_pass_on g o T h got numbers some k = (passed_on g o T h got numbers k, λ i v s. stretch_of g o T h got numbers i v k s)
+workers_pass_on g o T h got numbers k = (passed_on g o T h got numbers k, λ i v s. stretch_of g o T h got numbers i v k s)

@@ -11,5 +11,5 @@ use Rattle.slave.specs.LaneAccounts.{PassedOn}
 use Rattle.slave.specs.Stretches.{Stretches}
 
 abbrev pub WorkersPassOn : Type 0
-WorkersPassOn = (g : Origin) (o : FifoOptions) (T : List Given) (h : History) (got : List Msg) (numbers : List (ℕ × ℕ)) → 1 ≤ o.queue_size → Stretches g o T h got numbers
+WorkersPassOn = (g : Origin) (o : FifoOptions) (T : List Given) (h : History) (got : List Msg) (numbers : List (ℕ × ℕ)) → Stretches g o T h got numbers
     → PassedOn T got × ((i v : ℕ) → SweptAt T i v → (1 ≤ v) × SweptStretch o.queue_size numbers v T)

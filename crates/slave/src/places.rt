@@ -1,5 +1,5 @@
 // A list with places reserved ahead, whose last item may still change.
-ghost use Rattle.std.specs.Prelude.{◌≡◌, ◌+◌, ◌≤◌, ◌<◌, ◌∷◌, ◌++◌, [], IsOk, OnOk, length, List, Some, None};
+ghost use Rattle.std.specs.Prelude.{◌≡◌, ◌+◌, ◌≤◌, ◌<◌, ◌∷◌, ◌++◌, [], IsOk, OnOk, OnErr, length, List, Some, None};
 
 use rmx_media::{Items, NoMemory};
 use std::alloc::Global;
@@ -43,6 +43,7 @@ impl<T: Copy + Drop> Places<T> {
         requires few { more < 16 }
         ensures items { self.new.items ≡ self.old.items }
         ensures ok { OnOk result (more ≤ self.new.spare) }
+        ensures err { OnErr result (self.new ≡ self.old) }
         ensures kept { self.old.spare ≤ self.new.spare }
         ensures enough { more ≤ self.old.spare → IsOk result }
     {

@@ -1,5 +1,5 @@
 // A shelf whose flushes are watched.
-ghost use Rattle.std.specs.Prelude.{◌≡◌};
+ghost use Rattle.std.specs.Prelude.{◌≡◌, false};
 
 use rmx_edge::{Shelf, ShelfFault};
 
@@ -12,11 +12,12 @@ pub struct Watched<S: Shelf> {
 }
 
 impl<S: Shelf> Watched<S> {
-    ghost use Rattle.slave.specs.Watched.{inner};
+    ghost use Rattle.slave.specs.Watched.{inner, is_flushed};
 
     /// Watches this shelf, which wasn't flushed yet.
     pub fn new(shelf: S) -> Watched<S>
-        ensures { inner result ≡ shelf }
+        ensures inner { inner result ≡ shelf }
+        ensures fresh { is_flushed result ≡ false }
     {
         Watched {
             shelf,

@@ -4,6 +4,6 @@
 #[derive(Clone, Copy, Debug, PartialEq, Eq)]
 pub enum Fed {
     More,
-    /// An output that aborts, or every one, is dead.
+    /// An output that aborts, or every one, is known to be dead.
     Stop,
 }

@@ -80,6 +80,7 @@ impl<S: Shelf, G> TeeRun<S, G> {
     /// Takes the shelves that no output has; `finish` has none of them then.
     pub fn take_spare(&mut self) -> Items<S>
         ensures spare { result.items ≡ spare_of self.old }
+        ensures left { spare_of self.new ≡ [] }
         ensures keeps { (seats : List Seat) (given : List Piece) → KeepsRun S.state self.old seats given → KeepsRun S.state self.new seats given }
         ensures infos { infos_of self.new ≡ infos_of self.old }
         ensures threads { theres_of self.new ≡ theres_of self.old }
@@ -93,8 +94,8 @@ impl<S: Shelf, G: Gate> TeeRun<S, G> {
     ghost use Rattle.tee.specs.RunKeeps.{KeepsRun, dead_in, infos_of, spare_of, theres_of};
 
     /// Gives a packet to all outputs, and then asks each lane once. It filters for each of them first and makes room for what
-    /// may be refused, so that a refusal of memory changes nothing. Stop says that an output that aborts, or every one, is known
-    /// to be dead.
+    /// may be refused, so that where memory is refused no output was given anything. Stop says that an output that aborts, or
+    /// every one, is known to be dead.
     pub fn feed<R: Wait>(&mut self, rt: &R, p: &Packet) -> Result<Fed, NoMemory>
         requires ready { (seats : List Seat) × (given : List Piece) × KeepsRun S.state self.old seats given × (length given < 2 ^ 61) }
         requires taken { IsInput (infos_of self.old) p.now }

@@ -162,6 +162,7 @@ impl<S: Shelf> Tee<S> {
     /// Takes the shelves that no output has; `finish` has none of them then.
     pub fn take_spare(&mut self) -> Items<S>
         ensures spare { result.items ≡ spare_of self.old }
+        ensures left { spare_of self.new ≡ [] }
         ensures keeps { (seats : List Seat) (given : List Packet) → Keeps S.state self.old seats given → Keeps S.state self.new seats given }
         ensures infos { infos_of self.new ≡ infos_of self.old }
         ensures dead { (u : ℕ) → dead_in self.new u ≡ dead_in self.old u }

@@ -6,7 +6,7 @@ use Rattle.slave.proofs.job.SlaveJob.with_kit.Goals as goal
 
 pub returns : goal.returns
 returns g c =
-    let same = rw (← c.new-2.ensures) at c.new.ensures.state in
+    let same = rw (← c.new-2.ensures.inner) at c.new.ensures.state in
     record {
       fresh = λ name format seg o streams k.
           let out : Origin = record { shelf = with_count (g.S.Shelf.state c.args.shelf) 0 0; name = name; format = format; seg = seg; streams = streams } in
