@@ -1,13 +1,14 @@
 // Worked examples over memory: what the words come to where calls fail.
 use super::worked::{
-    ADTS, FRAME21, SEQUENCE_END, TWO_FRAMES, VIDEO, add_tag, file, input, is_nothing, run_on,
+    ADTS, FRAME21, Ran, SEQUENCE_END, TWO_FRAMES, VIDEO, add_tag, file, input, is_nothing, run_on,
     run_tee, run_with, sample_text, shelf_of, short_text,
 };
 use crate::SHELVES;
 use crate::status::{Ending, Refusal, Status};
 use fifo_core::{EndState, Fate};
 use rmx_edge::{FailAt, MemShelf, MemSink};
-use slave::{FaultAt, FaultNote, Run, SessionNote};
+use slave::{FaultAt, FaultNote, Run, SessionNote, SlaveEnd};
+use std::alloc::Global;
 use std::test::Fail;
 
 // An output that is dead from the beginning stops the reading of a long text in its first pieces.
@@ -31,24 +32,41 @@ fn a_stop_in_a_long_text(rt: HostRuntime) -> Result<(), Fail> {
     Ok(())
 }
 
-// A text that comes by single bytes, of which `count` came when a read failed: no shelf was touched before both
-// configurations were there; behind that the files hold the packets of these bytes.
+// Two outputs of a text that comes by single bytes, where this call of the input fails: 0 is its opening.
+fn failing_at(alloc: Global, text: &[u8], call: u64) -> Result<Ran, Fail> {
+    let words = ["-i", "in.flv", "-f", "tee", "[f=flv]o.flv|[f=adts]o.aac"];
+    let inputs = input(alloc, text, vec![in alloc; call]?, 1)?;
+    let out = MemSink::new(Vec::new(alloc));
+    run_with(alloc, &words, inputs, MemShelf::new(alloc), out)
+}
+
+// The FLV file of what stands before `end` in a text.
+fn file_up_to(alloc: Global, text: &[u8], end: usize, stamp: u32) -> Result<Vec<u8>, Fail> {
+    let mut bytes = Vec::from_slice(alloc, text.get(..end).ok_or("too short")?)?;
+    add_tag(&mut bytes, (VIDEO, stamp, &SEQUENCE_END))?;
+    Ok(bytes)
+}
+
+// A text of which `count` bytes came when a read failed: no shelf was touched before both configurations were there.
+#[test]
+fn failing_reads_before_outputs(rt: HostRuntime) -> Result<(), Fail> {
+    let alloc = rt.alloc();
+    let text = sample_text(alloc)?;
+    for call in 0..102u64 {
+        let ran = failing_at(alloc, &text, call)?;
+        assert_eq!(rt; ran.outcome.status, Status::InputFault, "{call}");
+        assert!(rt; ran.report.ends_with(b"status 2 input fault\n"), "{call}");
+        assert!(rt; is_nothing(&ran), "{call}");
+    }
+    Ok(())
+}
+
+// Behind that the files hold the packets of the bytes that came.
 #[test]
 fn failing_reads(rt: HostRuntime) -> Result<(), Fail> {
     let alloc = rt.alloc();
     let text = sample_text(alloc)?;
-    let words = ["-i", "in.flv", "-f", "tee", "[f=flv]o.flv|[f=adts]o.aac"];
-    for count in 0..214u64 {
-        let fails = vec![in alloc; 1 + count]?;
-        let inputs = input(alloc, &text, fails, 1)?;
-        let out = MemSink::new(Vec::new(alloc));
-        let ran = run_with(alloc, &words, inputs, MemShelf::new(alloc), out)?;
-        assert_eq!(rt; ran.outcome.status, Status::InputFault, "{count}");
-        assert!(rt; ran.report.ends_with(b"status 2 input fault\n"), "{count}");
-        if count < 101 {
-            assert!(rt; is_nothing(&ran), "{count}");
-            continue;
-        }
+    for count in 101..214u64 {
         let (end, stamp, frames): (usize, u32, usize) = match count {
             101..=126 => (105, 0, 0),
             127..=144 => (131, 0, 0),
@@ -56,21 +74,22 @@ fn failing_reads(rt: HostRuntime) -> Result<(), Fail> {
             163..=188 => (167, 0, 16),
             _ => (193, 40, 16),
         };
-        let mut wanted = Vec::from_slice(alloc, text.get(..end).ok_or("too short")?)?;
-        add_tag(&mut wanted, (VIDEO, stamp, &SEQUENCE_END))?;
+        let ran = failing_at(alloc, &text, 1 + count)?;
+        assert_eq!(rt; ran.outcome.status, Status::InputFault, "{count}");
+        let wanted = file_up_to(alloc, &text, end, stamp)?;
         let flv = Some(("o.flv", wanted.as_slice(), true));
         assert_eq!(rt; file(shelf_of(&ran, 0)?, 0), flv, "{count}");
         let aac = Some(("o.aac", TWO_FRAMES.get(..frames).ok_or("too long")?, true));
         assert_eq!(rt; file(shelf_of(&ran, 1)?, 0), aac, "{count}");
     }
-    let fails = vec![in alloc; 0]?;
-    let inputs = input(alloc, &text, fails, 1)?;
-    let out = MemSink::new(Vec::new(alloc));
-    let ran = run_with(alloc, &words, inputs, MemShelf::new(alloc), out)?;
-    assert_eq!(rt; ran.outcome.status, Status::InputFault);
-    assert!(rt; is_nothing(&ran));
-    let unknown = ["-i", "other.flv", "-f", "adts", "o.aac"];
-    let ran = run_on(alloc, &unknown, &text)?;
+    Ok(())
+}
+
+#[test]
+fn an_input_that_is_not_there(rt: HostRuntime) -> Result<(), Fail> {
+    let alloc = rt.alloc();
+    let text = sample_text(alloc)?;
+    let ran = run_on(alloc, &["-i", "other.flv", "-f", "adts", "o.aac"], &text)?;
     assert_eq!(rt; ran.outcome.status, Status::InputFault);
     assert!(rt; is_nothing(&ran));
     Ok(())
@@ -117,63 +136,106 @@ const PIECES: [usize; 23] = [
     13, 11, 21, 4, 16, 17, 4, 13, 2, 4, 16, 6, 4, 13, 1, 4, 13, 1, 4, 16, 6, 4, 20,
 ];
 
-// A shelf that fails at one call, which keeps one byte of its piece: where the fault lies, how far the run came, and what
-// the file holds. Beside an output that doesn't abort the others are whole.
+// Where a fault of this call lies, and how far a run comes that it ends.
+fn place_of(call: u64) -> (FaultAt, u64) {
+    match call {
+        0..=10 => (FaultAt::Begin, 1),
+        11..=22 => (FaultAt::Put((call - 11) / 3), (call - 11) / 3 + 1),
+        _ => (FaultAt::End, 4),
+    }
+}
+
+// How many bytes a file holds whose shelf fails at this call, which keeps one byte of its piece. The last call has no piece.
+fn kept_at(call: u64) -> usize {
+    let before = (call as usize).saturating_sub(1);
+    let mut kept = usize::from(before < PIECES.len());
+    for piece in PIECES.iter().take(before) {
+        kept = kept.saturating_add(*piece);
+    }
+    kept
+}
+
+// These outputs of the sample, the first of whose shelves fails at this call.
+fn failing_call(alloc: Global, outputs: &str, text: &[u8], call: u64) -> Result<Ran, Fail> {
+    let fails = vec![in alloc; FailAt { call, keep: 1 }]?;
+    run_tee(alloc, outputs, text, MemShelf::failing(alloc, fails))
+}
+
+// Whether the first output failed at this call, and what its file holds.
+fn is_failed(ran: &Ran, text: &[u8], call: u64) -> Result<bool, Fail> {
+    let end = ran.outcome.ends.as_slice().first().ok_or("no output")?;
+    let note = FaultNote {
+        session: 0,
+        at: place_of(call).0,
+        before: 0,
+        after: 1,
+    };
+    let bytes = text.get(..kept_at(call)).ok_or("too short")?;
+    let wanted = if call == 0 {
+        None
+    } else {
+        Some(("o.flv", bytes, false))
+    };
+    Ok(
+        end.state == EndState::Failed
+            && end.faults.as_slice() == [note].as_slice()
+            && file(&end.shelf, 0) == wanted
+            && end.shelf.take_count() == usize::from(call > 0),
+    )
+}
+
+// A shelf that fails at one call: where the fault lies, how far the run came, and what the file holds.
 #[test]
 fn failing_calls(rt: HostRuntime) -> Result<(), Fail> {
     let alloc = rt.alloc();
     let text = sample_text(alloc)?;
-    let mut start = 0usize;
     for call in 0..25u64 {
-        let (at, upto) = match call {
-            0..=10 => (FaultAt::Begin, 1),
-            11..=22 => (FaultAt::Put((call - 11) / 3), (call - 11) / 3 + 1),
-            _ => (FaultAt::End, 4),
-        };
-        let note = FaultNote {
-            session: 0,
-            at,
-            before: 0,
-            after: 1,
-        };
-        let kept = if call == 24 {
-            213
-        } else {
-            start.saturating_add(1)
-        };
-        let bytes = text.get(..kept).ok_or("too short")?;
-        let wanted = if call == 0 {
-            None
-        } else {
-            Some(("o.flv", bytes, false))
-        };
-        for (outputs, status) in [
-            ("[f=flv]o.flv", Status::SlaveFailed(0)),
-            ("[f=flv:onfail=ignore]o.flv|[f=adts]o.aac", Status::Done),
-        ] {
-            let fails = vec![in alloc; FailAt { call, keep: 1 }]?;
-            let shelf = MemShelf::failing(alloc, fails);
-            let ran = run_tee(alloc, outputs, &text, shelf)?;
-            assert_eq!(rt; ran.outcome.status, status, "{call}");
-            let end = ran.outcome.ends.as_slice().first().ok_or("no output")?;
-            assert_eq!(rt; end.faults.as_slice(), [note].as_slice(), "{call}");
-            assert_eq!(rt; end.state, EndState::Failed, "{call}");
-            assert_eq!(rt; file(&end.shelf, 0), wanted, "{call}");
-            assert_eq!(rt; end.shelf.take_count(), usize::from(call > 0), "{call}");
-            if status == Status::Done {
-                assert_eq!(rt; ran.outcome.upto, 4, "{call}");
-                let whole = Some(("o.aac", TWO_FRAMES.as_slice(), true));
-                assert_eq!(rt; file(shelf_of(&ran, 1)?, 0), whole, "{call}");
-            } else {
-                assert_eq!(rt; ran.outcome.upto, upto, "{call}");
-            }
-        }
-        if call > 0 {
-            let piece = PIECES.get(call as usize - 1).copied().unwrap_or(0);
-            start = start.saturating_add(piece);
-        }
+        let ran = failing_call(alloc, "[f=flv]o.flv", &text, call)?;
+        assert_eq!(rt; ran.outcome.status, Status::SlaveFailed(0), "{call}");
+        assert_eq!(rt; ran.outcome.upto, place_of(call).1, "{call}");
+        assert!(rt; is_failed(&ran, &text, call)?, "{call}");
     }
     Ok(())
+}
+
+// Beside an output that doesn't abort, the others are whole.
+#[test]
+fn failing_calls_beside_another(rt: HostRuntime) -> Result<(), Fail> {
+    let alloc = rt.alloc();
+    let text = sample_text(alloc)?;
+    let outputs = "[f=flv:onfail=ignore]o.flv|[f=adts]o.aac";
+    for call in 0..25u64 {
+        let ran = failing_call(alloc, outputs, &text, call)?;
+        assert_eq!(rt; ran.outcome.status, Status::Done, "{call}");
+        assert_eq!(rt; ran.outcome.upto, 4, "{call}");
+        assert!(rt; is_failed(&ran, &text, call)?, "{call}");
+        let whole = Some(("o.aac", TWO_FRAMES.as_slice(), true));
+        assert_eq!(rt; file(shelf_of(&ran, 1)?, 0), whole, "{call}");
+    }
+    Ok(())
+}
+
+// The end of an output whose first call failed, and which was given one packet.
+fn is_dead(end: &SlaveEnd<MemShelf>) -> bool {
+    let run = Run {
+        fate: Fate::AfterFailure(0),
+        first: 0,
+        count: 1,
+    };
+    let session = SessionNote {
+        number: 0,
+        begun: false,
+        closed: false,
+    };
+    let note = FaultNote {
+        session: 0,
+        at: FaultAt::Begin,
+        before: 0,
+        after: 1,
+    };
+    end.fates.as_slice() == [run].as_slice()
+        && end.sessions.as_slice() == [session].as_slice()
+        && end.faults.as_slice() == [note].as_slice()
 }
 
 // An output that is dead from the beginning, beside one that isn't: what is told of both.
@@ -190,25 +252,7 @@ fn a_dead_one(rt: HostRuntime) -> Result<(), Fail> {
     assert_eq!(rt; ran.outcome.status, Status::SlaveFailed(0));
     assert_eq!(rt; (ran.outcome.tags, ran.outcome.upto), (5, 1));
     let end = ran.outcome.ends.as_slice().first().ok_or("no output")?;
-    let run = Run {
-        fate: Fate::AfterFailure(0),
-        first: 0,
-        count: 1,
-    };
-    assert_eq!(rt; end.fates.as_slice(), [run].as_slice());
-    let session = SessionNote {
-        number: 0,
-        begun: false,
-        closed: false,
-    };
-    assert_eq!(rt; end.sessions.as_slice(), [session].as_slice());
-    let note = FaultNote {
-        session: 0,
-        at: FaultAt::Begin,
-        before: 0,
-        after: 1,
-    };
-    assert_eq!(rt; end.faults.as_slice(), [note].as_slice());
+    assert!(rt; is_dead(end));
     let end = ran.outcome.ends.as_slice().get(1).ok_or("no output")?;
     assert_eq!(rt; end.fates.as_slice().len(), 0);
     assert_eq!(rt; file(&end.shelf, 0), Some(("y.aac", [].as_slice(), true)));

@@ -69,20 +69,24 @@ const FRAMES: [u8; 24] = [
     0xFF, 0xF1, 0x50, 0x80, 0x01, 0x1F, 0xFC, 0x23,
 ];
 
-// A packet whose write failed is written into the next file. Where that can't be made either it is lost, and the packet behind
-// it begins a file of its own.
-#[test]
-fn sound_goes_on(rt: HostRuntime) -> Result<(), Fail> {
-    let alloc = rt.alloc();
+const RECOVERING: &str = "[f=adts:fifo_options=attempt_recovery=1]a.aac";
+
+fn three_frames(alloc: Global) -> Result<Vec<u8>, Fail> {
     let tags: [Tag; 4] = [
         (AUDIO, 0, &SOUND),
         (AUDIO, 0, &A21),
         (AUDIO, 0, &A22),
         (AUDIO, 0, &A23),
     ];
-    let text = text_of(alloc, 4, &tags)?;
-    let output = "[f=adts:fifo_options=attempt_recovery=1]a.aac";
-    let ran = went_on(alloc, output, &text, &[3], 2)?;
+    text_of(alloc, 4, &tags)
+}
+
+// A packet whose write failed is written into the next file.
+#[test]
+fn sound_goes_on(rt: HostRuntime) -> Result<(), Fail> {
+    let alloc = rt.alloc();
+    let text = three_frames(alloc)?;
+    let ran = went_on(alloc, RECOVERING, &text, &[3], 2)?;
     assert_eq!(rt; ran.outcome.status, Status::Done);
     let end = ran.outcome.ends.as_slice().first().ok_or("no output")?;
     let files = [
@@ -95,7 +99,15 @@ fn sound_goes_on(rt: HostRuntime) -> Result<(), Fail> {
     let faults = [fault(0, FaultAt::Put(1), 0)];
     assert_eq!(rt; end.faults.as_slice(), faults.as_slice());
     assert_eq!(rt; (end.state, end.bytes), (EndState::Closed, 24));
-    let ran = went_on(alloc, output, &text, &[3, 4], 0)?;
+    Ok(())
+}
+
+// Where the next file can't be made either, the packet is lost, and the one behind it begins the file after that.
+#[test]
+fn sound_goes_on_later(rt: HostRuntime) -> Result<(), Fail> {
+    let alloc = rt.alloc();
+    let text = three_frames(alloc)?;
+    let ran = went_on(alloc, RECOVERING, &text, &[3, 4], 0)?;
     assert_eq!(rt; ran.outcome.status, Status::Done);
     let end = ran.outcome.ends.as_slice().first().ok_or("no output")?;
     let files = [

@@ -112,6 +112,25 @@ fn told(alloc: Global, ran: &Ran, output: usize) -> Result<String, Fail> {
     Ok(lines)
 }
 
+// Whether this is told of an output, and this of its lane.
+fn is_told(
+    alloc: Global,
+    ran: &Ran,
+    output: usize,
+    wanted: &str,
+    lane: &str,
+) -> Result<bool, Fail> {
+    Ok(
+        told(alloc, ran, output)?.as_str() == wanted
+            && lane_of(alloc, ran, output)?.as_str() == lane,
+    )
+}
+
+// Whether an output's file holds these bytes.
+fn has_bytes(alloc: Global, ran: &Ran, output: usize, wanted: &[u8]) -> Result<bool, Fail> {
+    Ok(bytes_of(alloc, ran, output)?.as_slice() == wanted)
+}
+
 // What is told of an output's lane, in lines.
 fn lane_of(alloc: Global, ran: &Ran, output: usize) -> Result<String, Fail> {
     let end = end_of(ran, output)?;
@@ -345,20 +364,23 @@ fn a_dead_one(rt: HostRuntime) -> Result<(), Fail> {
         _ => (8, 2),
     };
     assert_eq!(rt; (tags, upto.min(4)), (dealt, upto));
-    let dead = format!(in alloc;
-        "Failed bytes=0\nsession 0 begun=false closed=false\nfault session=0 Begin 0..1\nAfterFailure(0) first=0 count={upto}\n"
-    )?;
-    assert_eq!(rt; told(alloc, &ran, 0)?, dead);
-    let known = lane_of(alloc, &ran, 0)?;
-    let soon = format!(in alloc; "asked={upto} told=Some({upto})\n")?;
-    assert!(rt;
-        known.ends_with(soon.as_str()) || known.ends_with("asked=4 told=None\n"),
-        "{known}"
-    );
+    assert!(rt; is_dead(alloc, &ran, upto)?);
     let frames = TWO_FRAMES.get(..8 * sound).ok_or("too many")?;
     assert_eq!(rt; bytes_of(alloc, &ran, 1)?.as_slice(), frames);
     assert!(rt; told(alloc, &ran, 1)?.contains("closed=true"));
     Ok(())
+}
+
+// Whether the first output is told to have failed before all its packets, and its lane to have said so behind the last one,
+// or never.
+fn is_dead(alloc: Global, ran: &Ran, upto: u64) -> Result<bool, Fail> {
+    let dead = format!(in alloc;
+        "Failed bytes=0\nsession 0 begun=false closed=false\nfault session=0 Begin 0..1\nAfterFailure(0) first=0 count={upto}\n"
+    )?;
+    let soon = format!(in alloc; "asked={upto} told=Some({upto})\n")?;
+    let lane = lane_of(alloc, ran, 0)?;
+    let known = lane.ends_with(soon.as_str()) || lane.ends_with("asked=4 told=None\n");
+    Ok(known && told(alloc, ran, 0)? == dead)
 }
 
 const DEAD: &str = "\
@@ -436,18 +458,19 @@ fn a_failure_ends_the_reading(rt: HostRuntime) -> Result<(), Fail> {
     let (ran, late, _) = run_held(&rt, outputs, &text, first, &holds)?;
     assert_eq!(rt; late, 0, "held for too long");
     assert_eq!(rt; ended(&ran), (Status::SlaveFailed(0), 5, 1));
-    assert_eq!(rt; told(alloc, &ran, 0)?.as_str(), FAILED_AT_FIRST);
-    assert_eq!(rt; told(alloc, &ran, 1)?.as_str(), ONE_GIVEN);
-    assert_eq!(rt; lane_of(alloc, &ran, 0)?.as_str(), FAILED_LANE);
-    assert_eq!(rt; lane_of(alloc, &ran, 1)?.as_str(), LANE_BESIDE);
-    assert_eq!(rt;
-        bytes_of(alloc, &ran, 0)?.as_slice(),
-        text.get(..105).ok_or("short")?
-    );
+    assert!(rt; is_told(alloc, &ran, 0, FAILED_AT_FIRST, FAILED_LANE)?);
+    assert!(rt; is_told(alloc, &ran, 1, ONE_GIVEN, LANE_BESIDE)?);
+    assert!(rt; has_bytes(alloc, &ran, 0, text.get(..105).ok_or("short")?)?);
+    let one = file_of_one(alloc, &text)?;
+    assert!(rt; has_bytes(alloc, &ran, 1, &one)?);
+    Ok(())
+}
+
+// The FLV file of the sample's first picture.
+fn file_of_one(alloc: Global, text: &[u8]) -> Result<Vec<u8>, Fail> {
     let mut one = Vec::from_slice(alloc, text.get(..131).ok_or("short")?)?;
     add_tag(&mut one, (VIDEO, 0, &SEQUENCE_END))?;
-    assert_eq!(rt; bytes_of(alloc, &ran, 1)?.as_slice(), one.as_slice());
-    Ok(())
+    Ok(one)
 }
 
 const INLINE: &str = "inline=true\n";
@@ -470,52 +493,58 @@ asked=4 told=None
 
 const OPEN_LANES: [&str; 3] = [ALL_GIVEN, ALL_GIVEN, SOUND_GIVEN];
 
+// The numbers below three that a set has.
+fn members_of(alloc: Global, set: u64) -> Result<Vec<u64>, Fail> {
+    let mut members = Vec::new(alloc);
+    for number in 0..3u64 {
+        if set >> number & 1 == 1 {
+            members.push(number)?;
+        }
+    }
+    Ok(members)
+}
+
+// The sample's run whose spawner refuses these starts, and how many it refused.
+fn run_refused<R: Threads + Wait + AllocGlobal + Clone + Drop + Send + 'static>(
+    rt: &R,
+    text: &[u8],
+    refused: Vec<u64>,
+) -> Result<(Ran, u64), Fail> {
+    let outputs = "[f=flv:use_fifo=1]o.flv|[f=mpegts:use_fifo=1]o.ts|[f=adts:use_fifo=1]o.aac";
+    let mut spawner = RefusingSpawner::new(refused);
+    let gate = Arc::new(rt.alloc(), OpenGate)?;
+    let shelf = MemShelf::new(rt.alloc());
+    let ran = run_threads(rt, outputs, text, shelf, gate, &mut spawner)?;
+    Ok((ran, spawner.refused_count()))
+}
+
 // Each set of refused starts: the files are the same, and just these outputs are written by the reader.
 #[test]
 fn refused_starts(rt: HostRuntime) -> Result<(), Fail> {
     let alloc = rt.alloc();
     let text = sample_text(alloc)?;
-    let plain = run_tee(
-        alloc,
-        "[f=flv]o.flv|[f=mpegts]o.ts|[f=adts]o.aac",
-        &text,
-        MemShelf::new(alloc),
-    )?;
-    let outputs = "[f=flv:use_fifo=1]o.flv|[f=mpegts:use_fifo=1]o.ts|[f=adts:use_fifo=1]o.aac";
+    let outputs = "[f=flv]o.flv|[f=mpegts]o.ts|[f=adts]o.aac";
+    let plain = run_tee(alloc, outputs, &text, MemShelf::new(alloc))?;
     for set in 0..8u64 {
-        let mut refused = Vec::new(alloc);
-        for start in 0..3u64 {
-            if set >> start & 1 == 1 {
-                refused.push(start)?;
-            }
-        }
-        let count = refused.len() as u64;
-        let mut spawner = RefusingSpawner::new(refused);
-        let gate = Arc::new(alloc, OpenGate)?;
-        let ran = run_threads(
-            &rt,
-            outputs,
-            &text,
-            MemShelf::new(alloc),
-            gate,
-            &mut spawner,
-        )?;
+        let starts = members_of(alloc, set)?;
+        let count = starts.len() as u64;
+        let (ran, refused) = run_refused(&rt, &text, starts)?;
         assert_eq!(rt; ended(&ran), (Status::Done, 8, 4));
-        assert_eq!(rt; spawner.refused_count(), count);
+        assert_eq!(rt; refused, count);
         for output in 0..3usize {
             let inline = set >> output & 1 == 1;
-            let wanted = if inline { INLINE } else { OPEN_LANES[output] };
-            assert_eq!(rt; lane_of(alloc, &ran, output)?.as_str(), wanted, "{set}");
-            assert_eq!(rt;
-                told(alloc, &ran, output)?,
-                told(alloc, &plain, output)?,
-                "{set}"
-            );
-            let plain_bytes = bytes_of(alloc, &plain, output)?;
-            assert_eq!(rt; bytes_of(alloc, &ran, output)?, plain_bytes, "{set}");
+            let lane = if inline { INLINE } else { OPEN_LANES[output] };
+            assert!(rt; is_as(alloc, &ran, &plain, output, lane)?, "{set}");
         }
     }
     Ok(())
+}
+
+// Whether an output came to the same as that of a plain run, and whether this is told of its lane.
+fn is_as(alloc: Global, ran: &Ran, plain: &Ran, output: usize, lane: &str) -> Result<bool, Fail> {
+    let wanted = told(alloc, plain, output)?;
+    let bytes = bytes_of(alloc, plain, output)?;
+    Ok(is_told(alloc, ran, output, &wanted, lane)? && has_bytes(alloc, ran, output, &bytes)?)
 }
 
 // The first output is held at its first packet until the second has ended: each has a thread, and neither waits for the other.

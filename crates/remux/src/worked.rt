@@ -435,11 +435,8 @@ fn refused(rt: HostRuntime) -> Result<(), Fail> {
     Ok(())
 }
 
-// Pictures alone, beside sound that isn't AAC or without any: each packet goes out at once, so that a dead output ends the
-// run behind the first.
-#[test]
-fn pictures(rt: HostRuntime) -> Result<(), Fail> {
-    let alloc = rt.alloc();
+// Three pictures beside sound that isn't AAC.
+fn beside_other_sound(alloc: Global) -> Result<Vec<u8>, Fail> {
     let tags: [Tag; 6] = [
         (VIDEO, 0, &SETS),
         (AUDIO, 0, &MP3),
@@ -448,7 +445,14 @@ fn pictures(rt: HostRuntime) -> Result<(), Fail> {
         (AUDIO, 46, &MP3),
         (VIDEO, 80, &PICTURE),
     ];
-    let text = text_of(alloc, 5, &tags)?;
+    text_of(alloc, 5, &tags)
+}
+
+// Pictures beside sound that isn't AAC.
+#[test]
+fn pictures(rt: HostRuntime) -> Result<(), Fail> {
+    let alloc = rt.alloc();
+    let text = beside_other_sound(alloc)?;
     let tags: [Tag; 5] = [
         (VIDEO, 0, &SETS),
         (VIDEO, 0, &KEY),
@@ -468,9 +472,24 @@ fn pictures(rt: HostRuntime) -> Result<(), Fail> {
     assert_eq!(rt; ran.outcome.discards.unsupported, 2);
     assert_eq!(rt; bytes_of(&ran, 0), Some(wanted.as_slice()));
     assert_eq!(rt; bytes_of(&ran, 1).map(|bytes| bytes.len()), Some(5 * 188));
+    Ok(())
+}
+
+// Each packet goes out at once, so that a dead output ends the run behind the first.
+#[test]
+fn a_dead_output_of_pictures(rt: HostRuntime) -> Result<(), Fail> {
+    let alloc = rt.alloc();
+    let text = beside_other_sound(alloc)?;
     let ran = run_tee(alloc, "[f=flv]o.flv", &text, MemShelf::dead(alloc))?;
     assert_eq!(rt; ran.outcome.status, Status::SlaveFailed(0));
     assert_eq!(rt; (ran.outcome.tags, ran.outcome.upto), (3, 1));
+    Ok(())
+}
+
+// Parameter sets that change on the way: the tables come again, and the new sets stand in front of a key picture alone.
+#[test]
+fn changed_sets(rt: HostRuntime) -> Result<(), Fail> {
+    let alloc = rt.alloc();
     let key: [(&[u8], &[u8]); 2] = [
         (&PICTURE, &[0, 0, 0, 1, 0x41, 0x9A]),
         (&KEY, &[0, 0, 0, 1, 0x68, 0xCF, 0, 0, 0, 1, 0x65, 0x88]),
@@ -517,7 +536,7 @@ fn pictures_alone(rt: HostRuntime) -> Result<(), Fail> {
     Ok(())
 }
 
-// Which streams an output takes, and what its filters leave of a packet.
+// Which streams an output takes.
 #[test]
 fn selected(rt: HostRuntime) -> Result<(), Fail> {
     let alloc = rt.alloc();
@@ -539,6 +558,13 @@ fn selected(rt: HostRuntime) -> Result<(), Fail> {
     assert_eq!(rt; file(shelf_of(&ran, 0)?, 0), flv);
     let aac = Some(("c.aac", TWO_FRAMES.as_slice(), true));
     assert_eq!(rt; file(shelf_of(&ran, 1)?, 0), aac);
+    Ok(())
+}
+
+// What an output's filters leave of a packet, and that another output has it whole.
+#[test]
+fn filtered(rt: HostRuntime) -> Result<(), Fail> {
+    let alloc = rt.alloc();
     let sei = [0x17, 1, 0, 0, 0, 0, 0, 0, 2, 6, 5, 0, 0, 0, 2, 0x65, 0x88];
     let only = [0x27, 1, 0, 0, 0, 0, 0, 0, 2, 6, 5];
     let tags: [Tag; 3] = [(VIDEO, 0, &SETS), (VIDEO, 0, &sei), (VIDEO, 40, &only)];
