@@ -1,5 +1,7 @@
 // Worked examples over memory: the cells of an MPEG-TS file, whole and where a read fails.
-use super::worked::{file, input, is_nothing, run_on, run_with, sample_text, shelf_of, short_text};
+use super::worked::{
+    Ran, file, input, is_nothing, run_on, run_with, sample_text, shelf_of, short_text,
+};
 use crate::status::{Ending, Refusal, Status};
 use rmx_edge::{MemShelf, MemSink};
 use std::alloc::Global;
@@ -89,30 +91,41 @@ fn cells_after(count: u64) -> Option<usize> {
     }
 }
 
-// The sample by single bytes: whole, and with each read failing in turn.
+// Whether the file of a run has so many of the sample's cells, or the run made none.
+fn has_cells(alloc: Global, ran: &Ran, count: Option<usize>) -> Result<bool, Fail> {
+    let Some(count) = count else {
+        return Ok(is_nothing(ran));
+    };
+    let cells = sample_cells(alloc, count)?;
+    Ok(file(shelf_of(ran, 0)?, 0) == Some(("o.ts", cells.as_slice(), true)))
+}
+
+#[test]
+fn all_cells(rt: HostRuntime) -> Result<(), Fail> {
+    let alloc = rt.alloc();
+    let ran = run_on(alloc, &MPEGTS, &sample_text(alloc)?)?;
+    assert_eq!(rt; ran.outcome.status, Status::Done);
+    assert!(rt; has_cells(alloc, &ran, Some(6))?);
+    Ok(())
+}
+
+// The run of a text that comes by single bytes, where this call of the input fails: 0 is its opening.
+fn failing_at(alloc: Global, text: &[u8], call: u64) -> Result<Ran, Fail> {
+    let inputs = input(alloc, text, vec![in alloc; call]?, 1)?;
+    let out = MemSink::new(Vec::new(alloc));
+    run_with(alloc, &MPEGTS, inputs, MemShelf::new(alloc), out)
+}
+
+// The sample by single bytes, with each read failing in turn.
 #[test]
 fn failing_reads(rt: HostRuntime) -> Result<(), Fail> {
     let alloc = rt.alloc();
     let text = sample_text(alloc)?;
-    let ran = run_on(alloc, &MPEGTS, &text)?;
-    assert_eq!(rt; ran.outcome.status, Status::Done);
-    let whole = sample_cells(alloc, 6)?;
-    let wanted = Some(("o.ts", whole.as_slice(), true));
-    assert_eq!(rt; file(shelf_of(&ran, 0)?, 0), wanted);
     for count in 0..214u64 {
-        let inputs = input(alloc, &text, vec![in alloc; 1 + count]?, 1)?;
-        let out = MemSink::new(Vec::new(alloc));
-        let ran = run_with(alloc, &MPEGTS, inputs, MemShelf::new(alloc), out)?;
+        let ran = failing_at(alloc, &text, 1 + count)?;
         assert_eq!(rt; ran.outcome.status, Status::InputFault, "{count}");
         assert!(rt; ran.report.ends_with(b"status 2 input fault\n"), "{count}");
-        match cells_after(count) {
-            None => assert!(rt; is_nothing(&ran), "{count}"),
-            Some(some) => {
-                let cells = sample_cells(alloc, some)?;
-                let wanted = Some(("o.ts", cells.as_slice(), true));
-                assert_eq!(rt; file(shelf_of(&ran, 0)?, 0), wanted, "{count}");
-            }
-        }
+        assert!(rt; has_cells(alloc, &ran, cells_after(count))?, "{count}");
     }
     Ok(())
 }

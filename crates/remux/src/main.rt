@@ -35,6 +35,8 @@ mod take;
 mod tests;
 mod threaded;
 #[cfg(test)]
+mod told;
+#[cfg(test)]
 mod worked;
 
 use explain::explain;

@@ -1,20 +1,19 @@
 // Worked examples over memory: what the words come to where calls fail.
+use super::told::tells;
 use super::worked::{
     ADTS, FRAME21, Ran, SEQUENCE_END, TWO_FRAMES, VIDEO, add_tag, file, input, is_nothing, run_on,
     run_tee, run_with, sample_text, shelf_of, short_text,
 };
 use crate::SHELVES;
 use crate::status::{Ending, Refusal, Status};
-use fifo_core::{EndState, Fate};
+use fifo_core::EndState;
 use rmx_edge::{FailAt, MemShelf, MemSink};
-use slave::{FaultAt, FaultNote, Run, SessionNote, SlaveEnd};
+use slave::{FaultAt, FaultNote};
 use std::alloc::Global;
 use std::test::Fail;
 
-// An output that is dead from the beginning stops the reading of a long text in its first pieces.
-#[test]
-fn a_stop_in_a_long_text(rt: HostRuntime) -> Result<(), Fail> {
-    let alloc = rt.alloc();
+// A hundred thousand packets of sound.
+fn long_text(alloc: Global) -> Result<Vec<u8>, Fail> {
     let whole = short_text(alloc)?;
     let packet = whole.get(32..).ok_or("too short")?;
     let mut packets = Vec::new(alloc);
@@ -25,6 +24,14 @@ fn a_stop_in_a_long_text(rt: HostRuntime) -> Result<(), Fail> {
     for _ in 0..100 {
         text.extend_from_slice(&packets)?;
     }
+    Ok(text)
+}
+
+// An output that is dead from the beginning stops the reading of a long text in its first pieces.
+#[test]
+fn a_stop_in_a_long_text(rt: HostRuntime) -> Result<(), Fail> {
+    let alloc = rt.alloc();
+    let text = long_text(alloc)?;
     let ran = run_tee(alloc, "[f=adts]o.aac", &text, MemShelf::dead(alloc))?;
     assert_eq!(rt; ran.outcome.status, Status::SlaveFailed(0));
     assert_eq!(rt; (ran.outcome.tags, ran.outcome.upto), (2, 1));
@@ -78,11 +85,16 @@ fn failing_reads(rt: HostRuntime) -> Result<(), Fail> {
         assert_eq!(rt; ran.outcome.status, Status::InputFault, "{count}");
         let wanted = file_up_to(alloc, &text, end, stamp)?;
         let flv = Some(("o.flv", wanted.as_slice(), true));
-        assert_eq!(rt; file(shelf_of(&ran, 0)?, 0), flv, "{count}");
-        let aac = Some(("o.aac", TWO_FRAMES.get(..frames).ok_or("too long")?, true));
-        assert_eq!(rt; file(shelf_of(&ran, 1)?, 0), aac, "{count}");
+        let is_flv = file(shelf_of(&ran, 0)?, 0) == flv;
+        assert!(rt; is_flv && has_frames(&ran, frames)?, "{count}");
     }
     Ok(())
+}
+
+// Whether the second output is closed and holds so many bytes of the sample's sound.
+fn has_frames(ran: &Ran, bytes: usize) -> Result<bool, Fail> {
+    let frames = TWO_FRAMES.get(..bytes).ok_or("too long")?;
+    Ok(file(shelf_of(ran, 1)?, 0) == Some(("o.aac", frames, true)))
 }
 
 #[test]
@@ -95,6 +107,25 @@ fn an_input_that_is_not_there(rt: HostRuntime) -> Result<(), Fail> {
     Ok(())
 }
 
+// What the words come to on this text where this write of the report fails: the status, how many lines were written, and
+// whether the output is whole.
+fn failing_report(
+    alloc: Global,
+    words: &[&str],
+    text: &[u8],
+    call: u64,
+) -> Result<(Status, usize, bool), Fail> {
+    let inputs = input(alloc, text, Vec::new(alloc), 65536)?;
+    let out = MemSink::new(vec![in alloc; call]?);
+    let ran = run_with(alloc, words, inputs, MemShelf::new(alloc), out)?;
+    let lines = ran.report.iter().filter(|byte| **byte == b'\n').count();
+    let is_whole = match ran.outcome.ends.as_slice().first() {
+        Some(end) => file(&end.shelf, 0) == Some(("out.aac", FRAME21.as_slice(), true)),
+        None => false,
+    };
+    Ok((ran.outcome.status, lines, is_whole))
+}
+
 // A report that can't be written changes the status of a run that was done, and no other. The lines before were written.
 #[test]
 fn failing_reports(rt: HostRuntime) -> Result<(), Fail> {
@@ -102,31 +133,25 @@ fn failing_reports(rt: HostRuntime) -> Result<(), Fail> {
     let text = short_text(alloc)?;
     let cut = text.get(..44).ok_or("too short")?;
     let words: [&[&str]; 2] = [&ADTS, &[]];
+    let cut_off = Status::InputEnded(Ending::Cut);
+    let not_flv = Status::InputRefused(Refusal::NotFlv);
     let fault = Status::Words(options::WordFault {
         kind: options::WordKind::NoInput,
         word: 0,
     });
-    let cases: [(&[&str], &[u8], u64, Status, usize); 8] = [
-        (words[0], &text, 0, Status::ReportFault, 0),
-        (words[0], &text, 1, Status::ReportFault, 1),
-        (words[0], &text, 3, Status::ReportFault, 3),
-        (words[0], &text, 4, Status::Done, 4),
-        (words[0], cut, 0, Status::InputEnded(Ending::Cut), 0),
-        (words[0], cut, 3, Status::InputEnded(Ending::Cut), 3),
-        (words[0], &[], 0, Status::InputRefused(Refusal::NotFlv), 0),
-        (words[1], &text, 0, fault, 0),
+    let cases: [(&[&str], &[u8], u64, (Status, usize, bool)); 8] = [
+        (words[0], &text, 0, (Status::ReportFault, 0, true)),
+        (words[0], &text, 1, (Status::ReportFault, 1, true)),
+        (words[0], &text, 3, (Status::ReportFault, 3, true)),
+        (words[0], &text, 4, (Status::Done, 4, true)),
+        (words[0], cut, 0, (cut_off, 0, false)),
+        (words[0], cut, 3, (cut_off, 3, false)),
+        (words[0], &[], 0, (not_flv, 0, false)),
+        (words[1], &text, 0, (fault, 0, false)),
     ];
-    for (words, text, call, status, lines) in cases {
-        let inputs = input(alloc, text, Vec::new(alloc), 65536)?;
-        let out = MemSink::new(vec![in alloc; call]?);
-        let ran = run_with(alloc, words, inputs, MemShelf::new(alloc), out)?;
-        assert_eq!(rt; ran.outcome.status, status, "{call}");
-        let ends = ran.report.iter().filter(|byte| **byte == b'\n').count();
-        assert_eq!(rt; ends, lines, "{call}");
-        if status == Status::ReportFault {
-            let whole = Some(("out.aac", FRAME21.as_slice(), true));
-            assert_eq!(rt; file(shelf_of(&ran, 0)?, 0), whole, "{call}");
-        }
+    for (words, text, call, wanted) in cases {
+        let came_to = failing_report(alloc, words, text, call)?;
+        assert_eq!(rt; came_to, wanted, "{call}");
     }
     Ok(())
 }
@@ -161,6 +186,10 @@ fn failing_call(alloc: Global, outputs: &str, text: &[u8], call: u64) -> Result<
     run_tee(alloc, outputs, text, MemShelf::failing(alloc, fails))
 }
 
+fn came_to(ran: &Ran) -> (Status, u64) {
+    (ran.outcome.status, ran.outcome.upto)
+}
+
 // Whether the first output failed at this call, and what its file holds.
 fn is_failed(ran: &Ran, text: &[u8], call: u64) -> Result<bool, Fail> {
     let end = ran.outcome.ends.as_slice().first().ok_or("no output")?;
@@ -191,8 +220,8 @@ fn failing_calls(rt: HostRuntime) -> Result<(), Fail> {
     let text = sample_text(alloc)?;
     for call in 0..25u64 {
         let ran = failing_call(alloc, "[f=flv]o.flv", &text, call)?;
-        assert_eq!(rt; ran.outcome.status, Status::SlaveFailed(0), "{call}");
-        assert_eq!(rt; ran.outcome.upto, place_of(call).1, "{call}");
+        let upto = place_of(call).1;
+        assert_eq!(rt; came_to(&ran), (Status::SlaveFailed(0), upto), "{call}");
         assert!(rt; is_failed(&ran, &text, call)?, "{call}");
     }
     Ok(())
@@ -206,37 +235,27 @@ fn failing_calls_beside_another(rt: HostRuntime) -> Result<(), Fail> {
     let outputs = "[f=flv:onfail=ignore]o.flv|[f=adts]o.aac";
     for call in 0..25u64 {
         let ran = failing_call(alloc, outputs, &text, call)?;
-        assert_eq!(rt; ran.outcome.status, Status::Done, "{call}");
-        assert_eq!(rt; ran.outcome.upto, 4, "{call}");
-        assert!(rt; is_failed(&ran, &text, call)?, "{call}");
-        let whole = Some(("o.aac", TWO_FRAMES.as_slice(), true));
-        assert_eq!(rt; file(shelf_of(&ran, 1)?, 0), whole, "{call}");
+        assert_eq!(rt; came_to(&ran), (Status::Done, 4), "{call}");
+        assert!(rt;
+            is_failed(&ran, &text, call)? && has_frames(&ran, 16)?,
+            "{call}"
+        );
     }
     Ok(())
 }
 
-// The end of an output whose first call failed, and which was given one packet.
-fn is_dead(end: &SlaveEnd<MemShelf>) -> bool {
-    let run = Run {
-        fate: Fate::AfterFailure(0),
-        first: 0,
-        count: 1,
-    };
-    let session = SessionNote {
-        number: 0,
-        begun: false,
-        closed: false,
-    };
-    let note = FaultNote {
-        session: 0,
-        at: FaultAt::Begin,
-        before: 0,
-        after: 1,
-    };
-    end.fates.as_slice() == [run].as_slice()
-        && end.sessions.as_slice() == [session].as_slice()
-        && end.faults.as_slice() == [note].as_slice()
-}
+const DEAD: &str = "\
+Failed bytes=0
+session 0 begun=false closed=false
+fault session=0 Begin 0..1
+AfterFailure(0) first=0 count=1
+";
+
+const EMPTY: &str = "\
+Closed bytes=0
+file y.aac closed=true bytes=0
+session 0 begun=true closed=true
+";
 
 // An output that is dead from the beginning, beside one that isn't: what is told of both.
 #[test]
@@ -249,13 +268,9 @@ fn a_dead_one(rt: HostRuntime) -> Result<(), Fail> {
         &text,
         MemShelf::dead(alloc),
     )?;
-    assert_eq!(rt; ran.outcome.status, Status::SlaveFailed(0));
-    assert_eq!(rt; (ran.outcome.tags, ran.outcome.upto), (5, 1));
-    let end = ran.outcome.ends.as_slice().first().ok_or("no output")?;
-    assert!(rt; is_dead(end));
-    let end = ran.outcome.ends.as_slice().get(1).ok_or("no output")?;
-    assert_eq!(rt; end.fates.as_slice().len(), 0);
-    assert_eq!(rt; file(&end.shelf, 0), Some(("y.aac", [].as_slice(), true)));
-    assert_eq!(rt; ran.outcome.spare.as_slice().len(), SHELVES - 2);
+    let spare = ran.outcome.spare.as_slice().len();
+    assert_eq!(rt; came_to(&ran), (Status::SlaveFailed(0), 1));
+    assert_eq!(rt; (ran.outcome.tags, spare), (5, SHELVES - 2));
+    assert!(rt; tells(alloc, &ran, 0, DEAD)? && tells(alloc, &ran, 1, EMPTY)?);
     Ok(())
 }

@@ -1,6 +1,7 @@
 // Runs over memory.
 ghost use Rattle.std.specs.Prelude.{◌≡◌, ◌<◌, false, length, All, IfOk};
 
+use super::worked::strings;
 use crate::SHELVES;
 use crate::run::run_direct;
 use crate::status::{Ending, Refusal, Status};
@@ -87,14 +88,6 @@ fn shelves(alloc: Global, first_dead: bool) -> Result<Vec<MemShelf>, Fail>
         dead = false;
     }
     Ok(shelves)
-}
-
-fn strings(alloc: Global, words: &[&str]) -> Result<Vec<String>, Fail> {
-    let mut strings = Vec::new(alloc);
-    for word in words {
-        strings.push(String::from_str(alloc, word)?)?;
-    }
-    Ok(strings)
 }
 
 const ADTS: [&str; 5] = ["-i", "in.flv", "-f", "adts", "out.aac"];

@@ -182,7 +182,16 @@ fn run_input<
     ensures sound { (I.state inputs.old).sound_at name.now ≡ true → (I.state inputs.new).faults ≡ (I.state inputs.old).faults }
 {
     match start_input(alloc, plan, name, inputs) {
-        Ok(start) => write_started(rt, alloc, plan, inputs, start, shelves, gate, spawner),
+        Ok(start) => {
+            let Start {
+                mut buf,
+                mut demux,
+                found,
+            } = start;
+            write_started(
+                rt, alloc, plan, inputs, &mut demux, &mut buf, found, shelves, gate, spawner,
+            )
+        }
         Err(status) => nothing(alloc, status, shelves),
     }
 }
@@ -199,27 +208,25 @@ fn write_started<
     alloc: Global,
     plan: &Plan,
     inputs: &mut I,
-    start: Start,
+    demux: &mut Demuxer,
+    buf: &mut [u8],
+    found: Found,
     shelves: Vec<S>,
     gate: Arc<G>,
     spawner: &mut P,
 ) -> Outcome<S>
-    requires room { length start.buf.items ≡ 65536 }
+    requires room { 0 < length buf.old }
+    requires small { length buf.old ≤ 65536 }
     requires sixteen { length shelves.items ≡ 16 }
     requires idle { All (λ s. (S.state s).writing ≡ false) shelves.items }
     requires valid { IsValidPlan (plan_view plan.now) }
-    requires found { (begin : InputState) × FoundIn start.found (clamped plan.now.max_bytes) begin (I.state inputs.old) start.demux.core.reader.ended (told start.demux) (λ b done. HasDealt b done start.demux) }
+    requires found { (start : InputState) × FoundIn found (clamped plan.now.max_bytes) start (I.state inputs.old) demux.old.core.reader.ended (told demux.old) (λ b done. HasDealt b done demux.old) }
     ensures sound { StaysSound (I.state inputs.old) (I.state inputs.new) }
     ensures inline { InlinesWithin (P.refused spawner.old) (P.refused spawner.new) result.ends.items }
-    ensures comes { (name : List ℕ) (old begin : InputState) → Opened name old begin → begin.faults ≤ (I.state inputs.old).faults
-        → FoundIn start.found (clamped plan.now.max_bytes) begin (I.state inputs.old) start.demux.core.reader.ended (told start.demux) (λ b done. HasDealt b done start.demux)
+    ensures comes { (name : List ℕ) (old start : InputState) → Opened name old start → start.faults ≤ (I.state inputs.old).faults
+        → FoundIn found (clamped plan.now.max_bytes) start (I.state inputs.old) demux.old.core.reader.ended (told demux.old) (λ b done. HasDealt b done demux.old)
         → ComesToBy EndsAllRun AreKeptRun S.state (asked_with name (plan_view plan.now)) old (I.state inputs.new) shelves.items result }
 {
-    let Start {
-        mut buf,
-        mut demux,
-        found,
-    } = start;
     let infos = match demux.streams() {
         Some(infos) => infos,
         None => unreachable!(),
@@ -238,7 +245,7 @@ fn write_started<
         gate,
         spawner,
     ) {
-        Ok(outputs) => write_run(rt, plan, inputs, &mut demux, line, outputs, &mut buf, found),
+        Ok(outputs) => write_run(rt, plan, inputs, demux, line, outputs, buf, found),
         Err(refused) => nothing(alloc, unmade(refused.fault), refused.shelves),
     }
 }

@@ -134,6 +134,14 @@ pub(super) struct Ran {
     pub left: usize,
 }
 
+pub(super) fn strings(alloc: Global, words: &[&str]) -> Result<Vec<String>, Fail> {
+    let mut strings = Vec::new(alloc);
+    for word in words {
+        strings.push(String::from_str(alloc, word)?)?;
+    }
+    Ok(strings)
+}
+
 pub(super) fn run_with(
     alloc: Global,
     words: &[&str],
@@ -145,12 +153,9 @@ pub(super) fn run_with(
 {
     let mut inputs = inputs;
     let mut out = out;
-    let mut strings = Vec::new(alloc);
-    for word in words {
-        strings.push(String::from_str(alloc, word)?)?;
-    }
+    let words = strings(alloc, words)?;
     let shelves = shelves(alloc, first)?;
-    let outcome = run_direct(alloc, &strings, &mut inputs, shelves, &mut out);
+    let outcome = run_direct(alloc, &words, &mut inputs, shelves, &mut out);
     Ok(Ran {
         outcome,
         report: Vec::from_slice(alloc, out.bytes())?,
@@ -338,16 +343,63 @@ const OTHER_FRAMES: [u8; 16] = [
     0xFF, 0xF1, 0x50, 0x80, 0x01, 0x1F, 0xFC, 0x21, 0xFF, 0xF1, 0x4C, 0x80, 0x01, 0x1F, 0xFC, 0x22,
 ];
 
-// Texts of sound to a file of ADTS: the status, the tags, the packets, the file, and a part of the report.
+// Whether the words that ask for a file of ADTS come to this status, to so many tags and packets, to this file, and to a
+// report with these counts of what was passed over.
+fn is_sound(
+    alloc: Global,
+    text: &[u8],
+    came_to: (Status, u64, u64),
+    bytes: &[u8],
+    discards: &str,
+) -> Result<bool, Fail> {
+    let ran = run_on(alloc, &ADTS, text)?;
+    let report = str::from_utf8(&ran.report).unwrap_or("");
+    let outcome = &ran.outcome;
+    Ok(
+        (outcome.status, outcome.tags, outcome.upto) == came_to
+            && file(shelf_of(&ran, 0)?, 0) == Some(("out.aac", bytes, true))
+            && report.contains(discards),
+    )
+}
+
+// Sound alone, cut, or beside pictures.
 #[test]
 fn sound(rt: HostRuntime) -> Result<(), Fail> {
     let alloc = rt.alloc();
-    let none: [u8; 0] = [];
     let whole = short_text(alloc)?;
+    let head = whole.get(..32).ok_or("too short")?;
+    let cut = whole.get(..44).ok_or("too short")?;
     let sample = sample_text(alloc)?;
-    let heads = text_of(alloc, 4, &[(AUDIO, 0, &SOUND)])?;
-    let tags: [Tag; 3] = [(AUDIO, 0, &SOUND), (AUDIO, 0, &A21), (AUDIO, 0, &SOUND)];
-    let repeated = text_of(alloc, 4, &tags)?;
+    let at_end = Status::InputEnded(Ending::Cut);
+    let cases: [(&[u8], (Status, u64, u64), &[u8], &str); 4] = [
+        (
+            &whole,
+            (Status::Done, 2, 1),
+            &FRAME21,
+            "script=0 unsupported=0 nostream=0 corrupt=0 command=0 seqend=0 repeat=0\n",
+        ),
+        (head, (Status::Done, 1, 0), &[], "repeat=0\n"),
+        (cut, (at_end, 1, 0), &[], "repeat=0\n"),
+        (
+            &sample,
+            (Status::Done, 8, 4),
+            &TWO_FRAMES,
+            "script=1 unsupported=0 nostream=0 corrupt=0 command=0 seqend=1 repeat=0\n",
+        ),
+    ];
+    for (text, came_to, bytes, discards) in cases {
+        assert!(rt;
+            is_sound(alloc, text, came_to, bytes, discards)?,
+            "{came_to:?}"
+        );
+    }
+    Ok(())
+}
+
+// A configuration that comes again, and one that changes, which an FLV file has too.
+#[test]
+fn changed_sound(rt: HostRuntime) -> Result<(), Fail> {
+    let alloc = rt.alloc();
     let tags: [Tag; 4] = [
         (AUDIO, 0, &SOUND),
         (AUDIO, 0, &A21),
@@ -356,40 +408,17 @@ fn sound(rt: HostRuntime) -> Result<(), Fail> {
     ];
     let changed = text_of(alloc, 4, &tags)?;
     let before = changed.get(..69).ok_or("too short")?;
-    let cut = whole.get(..44).ok_or("too short")?;
-    let at_end = Status::InputEnded(Ending::Cut);
-    let cases: [(&[u8], Status, u64, u64, &[u8], &str); 7] = [
-        (
-            &whole,
-            Status::Done,
-            2,
-            1,
-            &FRAME21,
-            "script=0 unsupported=0 nostream=0 corrupt=0 command=0 seqend=0 repeat=0\n",
-        ),
-        (&heads, Status::Done, 1, 0, &none, "repeat=0\n"),
-        (cut, at_end, 1, 0, &none, "repeat=0\n"),
-        (&repeated, Status::Done, 3, 1, &FRAME21, "repeat=1\n"),
-        (before, Status::Done, 3, 1, &FRAME21, "repeat=0\n"),
-        (&changed, Status::Done, 4, 2, &OTHER_FRAMES, "repeat=0\n"),
-        (
-            &sample,
-            Status::Done,
-            8,
-            4,
-            &TWO_FRAMES,
-            "script=1 unsupported=0 nostream=0 corrupt=0 command=0 seqend=1 repeat=0\n",
-        ),
+    let repeated = text_of(alloc, 4, &[tags[0], tags[1], tags[0]])?;
+    let cases: [(&[u8], (Status, u64, u64), &[u8], &str); 3] = [
+        (&repeated, (Status::Done, 3, 1), &FRAME21, "repeat=1\n"),
+        (before, (Status::Done, 3, 1), &FRAME21, "repeat=0\n"),
+        (&changed, (Status::Done, 4, 2), &OTHER_FRAMES, "repeat=0\n"),
     ];
-    for (text, status, tags, upto, bytes, discards) in cases {
-        let ran = run_on(alloc, &ADTS, text)?;
-        assert_eq!(rt; ran.outcome.status, status);
-        assert_eq!(rt; ran.outcome.tags, tags);
-        assert_eq!(rt; ran.outcome.upto, upto);
-        let wanted = Some(("out.aac", bytes, true));
-        assert_eq!(rt; file(shelf_of(&ran, 0)?, 0), wanted);
-        let report = str::from_utf8(&ran.report).unwrap_or("");
-        assert!(rt; report.contains(discards), "{report}");
+    for (text, came_to, bytes, discards) in cases {
+        assert!(rt;
+            is_sound(alloc, text, came_to, bytes, discards)?,
+            "{came_to:?}"
+        );
     }
     let ran = run_on(alloc, &["-i", "in.flv", "-f", "flv", "o.flv"], &changed)?;
     assert_eq!(rt; bytes_of(&ran, 0), Some(changed.as_slice()));
@@ -584,6 +613,23 @@ fn filtered(rt: HostRuntime) -> Result<(), Fail> {
     Ok(())
 }
 
+// Whether the words come to a fault of this kind and place, and to nothing else.
+fn is_fault(
+    alloc: Global,
+    words: &[&str],
+    text: &[u8],
+    kind: u32,
+    word: u32,
+) -> Result<bool, Fail> {
+    let ran = run_on(alloc, words, text)?;
+    let report = format!(in alloc; "status 1 words fault={kind} word={word}\n")?;
+    Ok(
+        ran.report.as_slice() == report.as_bytes()
+            && ran.outcome.status.number() == 1
+            && is_nothing(&ran),
+    )
+}
+
 // A fault of each kind in the words: the report, and that nothing was opened.
 #[test]
 fn word_faults(rt: HostRuntime) -> Result<(), Fail> {
@@ -598,12 +644,16 @@ fn word_faults(rt: HostRuntime) -> Result<(), Fail> {
         (&["-i", "in.flv", "-f", "ogg", "o"], 5, 3),
     ];
     for (words, kind, word) in cases {
-        let ran = run_on(alloc, words, &text)?;
-        let report = format!(in alloc; "status 1 words fault={kind} word={word}\n")?;
-        assert_eq!(rt; ran.report.as_slice(), report.as_bytes());
-        assert_eq!(rt; ran.outcome.status.number(), 1);
-        assert!(rt; is_nothing(&ran), "{kind}");
+        assert!(rt; is_fault(alloc, words, &text, kind, word)?, "{kind}");
     }
+    Ok(())
+}
+
+// The faults of a tee's outputs.
+#[test]
+fn tee_faults(rt: HostRuntime) -> Result<(), Fail> {
+    let alloc = rt.alloc();
+    let text = short_text(alloc)?;
     let long = vec![in alloc; b'n'; 201]?;
     let long = format!(in alloc; "[f=flv]{}", str::from_utf8(&long).unwrap_or(""))?;
     let seventeen =
@@ -619,10 +669,8 @@ fn word_faults(rt: HostRuntime) -> Result<(), Fail> {
         ("[f=flv:bsfs=h264_mp4toannexb]o", 13),
         (long.as_str(), 14),
     ] {
-        let ran = run_tee(alloc, outputs, &text, MemShelf::new(alloc))?;
-        let report = format!(in alloc; "status 1 words fault={kind} word=4\n")?;
-        assert_eq!(rt; ran.report.as_slice(), report.as_bytes());
-        assert!(rt; is_nothing(&ran), "{kind}");
+        let words = ["-i", "in.flv", "-f", "tee", outputs];
+        assert!(rt; is_fault(alloc, &words, &text, kind, 4)?, "{kind}");
     }
     Ok(())
 }
