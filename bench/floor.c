@@ -5,7 +5,7 @@
  * Reads the FLV file INPUT in pieces of 65536 bytes. Then it makes one write a packet and output: for each tag of pictures or sound
  * one of the tag's own length and one of whole cells of 188 bytes, for sound one of an ADTS frame's length too. The bytes written are
  * whatever stands in memory; only their count is right. With `threads` each output's writes are made by a thread of its own, which
- * shares nothing with the others. So a program that hands each packet to the system before the next takes no less than this.
+ * shares nothing with the others. What it takes is about the least of a program that hands each packet to the system before the next.
  */
 #include <fcntl.h>
 #include <pthread.h>
