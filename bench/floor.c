@@ -2,10 +2,11 @@
  *
  * usage: floor INPUT FOLDER [threads | rings]
  *
- * Reads the FLV file INPUT in pieces of 65536 bytes. Then it makes one write a packet and output: for each tag of pictures or sound
- * one of the tag's own length and one of whole cells of 188 bytes, for sound one of an ADTS frame's length too. The bytes written are
- * whatever stands in memory; only their count is right. With `threads` each output's writes are made by a thread of its own, which
- * shares nothing with the others. What it takes is about the least of a program that hands each packet to the system before the next.
+ * Reads the FLV file INPUT in pieces of 65536 bytes, and keeps each tag's kind and size alone. Then it makes one write a packet and
+ * output: for each tag of pictures or sound one of the tag's own length and one of whole cells of 188 bytes, for sound one of an ADTS
+ * frame's length too. The bytes written are always the same few; only their count is right. With `threads` each output's writes are
+ * made by a thread of its own, which shares nothing with the others. What it takes is about the least of a program that hands each
+ * packet to the system before the next.
  * With `rings` the main thread goes through the tags and gives each output's thread a message for each of its packets, through a ring
  * of 60 places. A message is as long as a packet with its index; nothing of it is counted, and no side looks at the other's end of
  * the ring before it must.
@@ -24,8 +25,13 @@
 
 enum { PIECE = 65536, TAG_HEAD = 11, TAG_SIZE = 4, FILE_HEAD = 13, SOUND = 8, PICTURE = 9, CELL = 188, CELL_PAYLOAD = 184, PES_HEAD = 32, PLACES = 60, SPINS = 4, YIELDS = 2, LINE = 128 };
 
-static uint8_t *text;
-static size_t length;
+struct tag {
+    uint32_t kind, size; /* of its body */
+};
+
+static struct tag *tags;
+static size_t tag_count;
+static uint8_t written_bytes[1 << 20];
 static const char *folder;
 
 struct output {
@@ -55,15 +61,41 @@ static void fail(const char *what) {
     exit(1);
 }
 
-static void read_all(const char *path) {
+/* What the next bytes are to the reader: `skipped` of no use, and then a head of which `held` bytes are known. */
+struct reader {
+    size_t skipped, held;
+    uint8_t head[TAG_HEAD];
+};
+
+static void read_piece(struct reader *reader, const uint8_t *piece, size_t length) {
+    for (size_t at = 0; at < length;) {
+        if (reader->skipped > 0) {
+            size_t passed = reader->skipped < length - at ? reader->skipped : length - at;
+            reader->skipped -= passed;
+            at += passed;
+            continue;
+        }
+        reader->head[reader->held++] = piece[at++];
+        if (reader->held < TAG_HEAD) continue;
+        const uint8_t *head = reader->head;
+        uint32_t size = (uint32_t)head[1] << 16 | (uint32_t)head[2] << 8 | head[3];
+        tags[tag_count++] = (struct tag){head[0], size};
+        *reader = (struct reader){.skipped = size + TAG_SIZE};
+    }
+}
+
+static void read_tags(const char *path) {
+    static uint8_t piece[PIECE];
+    struct reader reader = {.skipped = FILE_HEAD};
     int file = open(path, O_RDONLY);
     struct stat told;
     if (file < 0 || fstat(file, &told) != 0) fail(path);
-    text = malloc((size_t)told.st_size + 2 * PIECE); /* room behind the end: a write may be longer than its tag */
-    if (text == NULL) fail("malloc");
+    tags = malloc(((size_t)told.st_size / (TAG_HEAD + TAG_SIZE) + 1) * sizeof *tags);
+    if (tags == NULL) fail("malloc");
     ssize_t got;
-    while ((got = read(file, text + length, PIECE)) > 0) length += (size_t)got;
+    while ((got = read(file, piece, PIECE)) > 0) read_piece(&reader, piece, (size_t)got);
     close(file);
+    memset(written_bytes, 1, sizeof written_bytes);
 }
 
 static void open_output(struct output *to) {
@@ -73,23 +105,17 @@ static void open_output(struct output *to) {
     if (to->file < 0) fail(path);
 }
 
-/* The length of the tag's body. */
-static size_t size_at(size_t at) {
-    return (size_t)text[at + 1] << 16 | (size_t)text[at + 2] << 8 | text[at + 3];
+static void write_packet(struct output *to, size_t bytes) {
+    if (bytes > sizeof written_bytes || write(to->file, written_bytes, bytes) != (ssize_t)bytes) fail(to->name);
 }
 
-/* The tag's writes to `count` outputs from `first` on, and where the next tag begins. */
-static size_t write_tag(size_t at, struct output *first, size_t count) {
-    size_t size = size_at(at);
-    for (struct output *to = first; to < first + count; to++) {
-        size_t bytes = to->written(text[at], size);
-        if (bytes > 0 && write(to->file, text + at, bytes) != (ssize_t)bytes) fail(to->name);
-    }
-    return at + TAG_HEAD + size + TAG_SIZE;
-}
-
+/* The writes of all tags to `count` outputs from `first` on. */
 static void write_all(struct output *first, size_t count) {
-    for (size_t at = FILE_HEAD; at + TAG_HEAD < length;) at = write_tag(at, first, count);
+    for (const struct tag *tag = tags; tag < tags + tag_count; tag++)
+        for (struct output *to = first; to < first + count; to++) {
+            size_t bytes = to->written(tag->kind, tag->size);
+            if (bytes > 0) write_packet(to, bytes);
+        }
 }
 
 static void *work(void *output) {
@@ -98,8 +124,8 @@ static void *work(void *output) {
 }
 
 struct message {
-    size_t at, bytes;
-    uint64_t rest[15]; /* 136 bytes in all */
+    size_t bytes;
+    uint64_t rest[16]; /* 136 bytes in all */
 };
 
 /* How far one side is, and how far it last saw the other. Each side writes into lines of its own. */
@@ -155,16 +181,15 @@ static struct message take(struct ring *ring) {
 /* Makes the writes of the messages, up to one without bytes. */
 static void *write_given(void *ring) {
     struct output *to = ((struct ring *)ring)->to;
-    for (struct message message = take(ring); message.bytes > 0; message = take(ring))
-        if (write(to->file, text + message.at, message.bytes) != (ssize_t)message.bytes) fail(to->name);
+    for (struct message message = take(ring); message.bytes > 0; message = take(ring)) write_packet(to, message.bytes);
     return NULL;
 }
 
 /* Gives each output its messages, and at last one without bytes. */
 static void give_all(size_t count) {
-    for (size_t at = FILE_HEAD; at + TAG_HEAD < length; at += TAG_HEAD + size_at(at) + TAG_SIZE)
+    for (const struct tag *tag = tags; tag < tags + tag_count; tag++)
         for (struct ring *ring = rings; ring < rings + count; ring++) {
-            struct message message = {at, ring->to->written(text[at], size_at(at)), {0}};
+            struct message message = {.bytes = ring->to->written(tag->kind, tag->size)};
             if (message.bytes > 0) give(ring, message);
         }
     for (struct ring *ring = rings; ring < rings + count; ring++) give(ring, (struct message){0});
@@ -176,7 +201,7 @@ int main(int count, char **words) {
     if (count < 3 || count > 4 || (count == 4 && !ringed && strcmp(words[3], "threads") != 0))
         return fprintf(stderr, "usage: floor INPUT FOLDER [threads | rings]\n"), 2;
     folder = words[2];
-    read_all(words[1]);
+    read_tags(words[1]);
     for (size_t i = 0; i < outputs_count; i++) open_output(&outputs[i]);
     if (count == 3) return write_all(outputs, outputs_count), 0;
     pthread_t threads[sizeof outputs / sizeof *outputs];
