@@ -3,8 +3,8 @@
  * usage: floor INPUT FOLDER [threads | rings]
  *
  * Reads the FLV file INPUT in pieces of 65536 bytes, and keeps each tag's kind and size alone. Then it makes one write a packet and
- * output: for each tag of pictures or sound one of the tag's own length and one of whole cells of 188 bytes, for sound one of an ADTS
- * frame's length too. The bytes written are always the same few; only their count is right. With `threads` each output's writes are
+ * output: for each tag one of its own length and one of whole cells of 188 bytes, for sound one of an ADTS frame's length too (so a
+ * script counts as a packet). The bytes written are always the same few; only their count is right. With `threads` each output's writes are
  * made by a thread of its own, which shares nothing with the others. What it takes is about the least of a program that hands each
  * packet to the system before the next.
  * With `rings` the main thread goes through the tags and gives each output's thread a message for each of its packets, through a ring
@@ -23,7 +23,8 @@
 #include <time.h>
 #include <unistd.h>
 
-enum { PIECE = 65536, TAG_HEAD = 11, TAG_SIZE = 4, FILE_HEAD = 13, SOUND = 8, PICTURE = 9, CELL = 188, CELL_PAYLOAD = 184, PES_HEAD = 32, PLACES = 60, SPINS = 4, YIELDS = 2, LINE = 128 };
+enum { PIECE = 65536, FILE_HEAD = 13, TAG_HEAD = 11, TAG_SIZE = 4, SOUND = 8, CELL = 188, CELL_PAYLOAD = 184, PES_HEAD = 32 };
+enum { PLACES = 60, SPINS = 4, YIELDS = 2, LINE = 128 }; /* of rings: LINE bytes hold what no other thread writes */
 
 struct tag {
     uint32_t kind, size; /* of its body */
@@ -94,6 +95,7 @@ static void read_tags(const char *path) {
     if (tags == NULL) fail("malloc");
     ssize_t got;
     while ((got = read(file, piece, PIECE)) > 0) read_piece(&reader, piece, (size_t)got);
+    if (got < 0) fail(path);
     close(file);
     memset(written_bytes, 1, sizeof written_bytes);
 }
